@@ -1,0 +1,1 @@
+// Mathematics only: the definitions and laws of specs/, which the proofs of the other crates cite.

@@ -1,0 +1,5 @@
+pub mod Parts
+pub mod With
+pub mod PowerOn
+pub mod Valid
+pub mod Order

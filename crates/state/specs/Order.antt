@@ -1,0 +1,27 @@
+-- One chip no hotter than another: alike but that its temperatures may be cooler, and the steps, boosts and duties that follow from them
+-- lower. The start counts may differ, since they follow from the duties. Assumes nothing.
+use mathlib.Core.Path.{_≡_}
+use mathlib.Core.Bool.{false}
+use Prim.Native.Nat.{ℕ, _≤_}
+use lib.Dec.{T}
+use lib.ListN.{getD}
+use Rattle.temperature.specs.Order.{NoHotter}
+use Rattle.state.specs.declared.Chip.{Chip}
+use Rattle.state.specs.declared.Drive.{Drive}
+use Rattle.state.specs.Parts.{zoneAt}
+
+pub record NoHigher (d e : Drive) : Type 0 where
+  pub steps : (i : ℕ) → getD (d .steps) i 0 ≤ getD (e .steps) i 0
+  pub boosts : (i : ℕ) → T (getD (d .boosts) i false) → T (getD (e .boosts) i false)
+  pub ramps : d .ramps ≡ e .ramps
+  pub duties : (i : ℕ) → getD (d .duties) i 0 ≤ getD (e .duties) i 0
+
+pub record Cooler (c d : Chip) : Type 0 where
+  pub setup : c .setup ≡ d .setup
+  pub registers : c .registers ≡ d .registers
+  pub zones : (i : ℕ) → NoHotter (zoneAt c i) (zoneAt d i)
+  pub volts : c .volts ≡ d .volts
+  pub fans : c .fans ≡ d .fans
+  pub hot : c .hot ≡ d .hot
+  pub pin : c .pin ≡ d .pin
+  pub drive : NoHigher (c .drive) (d .drive)

@@ -1,0 +1,185 @@
+// The chip's state: what a setup holds, what the chip holds, and the chip at power-on.
+ghost use mathlib.Core.Path.{_≡_};
+ghost use lib.ListN.{getD};
+ghost use Rattle.map.specs.Tables.{defaults};
+ghost use Rattle.state.specs.PowerOn.{defaultSetup, powerOn, atRest};
+use temperature::Reading;
+
+// A voltage or fan count, or none.
+pub enum Count {
+    Missing,
+    Taken(u16),
+}
+
+// A zone's boost temperature in degrees, or none.
+pub enum Boost {
+    Off,
+    At(i8),
+}
+
+// A fan's override duty, or none.
+pub enum Override {
+    Off,
+    At(u16),
+}
+
+// What the address pin's level has been taken for: nothing yet, or the slave address.
+pub enum Latch {
+    Open,
+    Held(u8),
+}
+
+pub struct Zone {
+    pub reading: Reading,
+}
+
+pub struct Gauge {
+    pub count: Count,
+}
+
+pub struct ZoneBoost {
+    pub boost: Boost,
+}
+
+pub struct FanOverride {
+    pub duty: Override,
+}
+
+// The 59 numbers of a setup, in document 01's order.
+pub struct Setup {
+    pub level: u8,
+    // In degrees.
+    pub bases: [i8; 4],
+    // In degrees, or half degrees if LT12_RS or LT34_RS is set: tables 1 and 2 share theirs, so do 3 and 4.
+    pub offsets12: [u8; 12],
+    pub offsets34: [u8; 12],
+    pub hystereses: [u8; 2],
+    pub duties: [u16; 13],
+    // In zone order 1a, 1b, 2a, 2b, 3, 4.
+    pub boosts: [ZoneBoost; 6],
+    pub boost_hysteresis: u8,
+    // Bits 0 to 3 tables, 4 to 7 hot inputs.
+    pub bindings: [u8; 2],
+    pub overrides: [FanOverride; 2],
+    pub start_duties: [u16; 2],
+    pub start_counts: [u8; 2],
+}
+
+// The address pin.
+pub struct Pin {
+    pub level: u8,
+    pub latch: Latch,
+}
+
+// A hot input's ramp.
+pub struct Ramp {
+    pub level: u16,
+    pub wait: u8,
+}
+
+// What only a tick changes.
+pub struct Drive {
+    pub steps: [u8; 4],
+    pub boosts: [bool; 6],
+    pub ramps: [Ramp; 4],
+    pub duties: [u16; 2],
+    pub starts: [u8; 2],
+}
+
+pub struct Chip {
+    pub setup: Setup,
+    pub registers: [u8; 256],
+    // In zone order 1a, 1b, 2a, 2b, 3, 4.
+    pub zones: [Zone; 6],
+    pub volts: [Gauge; 16],
+    pub fans: [Gauge; 4],
+    // VRD1, VRD2, PROCHOT1, PROCHOT2.
+    pub hot: [bool; 4],
+    pub pin: Pin,
+    pub drive: Drive,
+}
+
+// The setup without a setup.
+pub fn default_setup() -> Setup
+    ensures { λ r. ⌜ r ≡ defaultSetup ⌝ }
+{
+    let no_boost = ZoneBoost { boost: Boost::Off };
+    let no_override = FanOverride {
+        duty: Override::Off,
+    };
+    let boosts = [no_boost; 6];
+    let overrides = [no_override; 2];
+    Setup {
+        level: 0,
+        bases: [30; 4],
+        offsets12: [2; 12],
+        offsets34: [2; 12],
+        hystereses: [2; 2],
+        duties: [0, 64, 80, 96, 112, 128, 144, 160, 176, 192, 208, 224, 240],
+        boosts: boosts,
+        boost_hysteresis: 3,
+        bindings: [17, 4],
+        overrides: overrides,
+        start_duties: [128; 2],
+        start_counts: [2; 2],
+    }
+}
+
+// The register file at power-on.
+fn default_registers() -> [u8; 256]
+    ensures { λ r. ⌜ r ≡ defaults ⌝ }
+{
+    let mut registers = [0; 256];
+    let mut i: usize = 0;
+    while i < 256 {
+        registers[i] = map::default_of((i % 256) as u8);
+        i += 1;
+    }
+    registers
+}
+
+// The part that only a tick changes, before the first.
+fn at_rest() -> Drive
+    ensures { λ r. ⌜ r ≡ atRest ⌝ }
+{
+    let still = Ramp { level: 0, wait: 0 };
+    let ramps = [still; 4];
+    Drive {
+        steps: [0; 4],
+        boosts: [false; 6],
+        ramps: ramps,
+        duties: [0; 2],
+        starts: [0; 2],
+    }
+}
+
+// The chip at power-on.
+pub fn power_on(setup: Setup) -> Chip
+    ensures { λ r. ⌜ r ≡ powerOn setup ⌝ }
+{
+    let level = setup.level;
+    let zone = Zone {
+        reading: Reading::Missing,
+    };
+    let gauge = Gauge {
+        count: Count::Missing,
+    };
+    let zones = [zone; 6];
+    let volts = [gauge; 16];
+    let fans = [gauge; 4];
+    let registers = default_registers();
+    let drive = at_rest();
+    Chip {
+        setup: setup,
+        registers: registers,
+        zones: zones,
+        volts: volts,
+        fans: fans,
+        hot: [false; 4],
+        pin: Pin {
+            level: level,
+            latch: Latch::Open,
+        },
+        drive: drive,
+    }
+}

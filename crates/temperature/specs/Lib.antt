@@ -1,0 +1,5 @@
+pub mod Temperature
+pub mod Raised
+pub mod Order
+pub mod Shows
+pub mod Cases
