@@ -5,3 +5,11 @@ pub mod Tab
 pub mod Order
 pub mod Magnitude
 pub mod Halves
+pub mod Pointwise
+pub mod Rises
+pub mod Every
+pub mod Store
+pub mod Masks
+pub mod Shift
+pub mod Bits
+pub mod Left

@@ -2,4 +2,5 @@ pub mod Parts
 pub mod With
 pub mod PowerOn
 pub mod Valid
+pub mod ValidDefault
 pub mod Order

@@ -1,6 +1,8 @@
 // The chip's state: what a setup holds, what the chip holds, and the chip at power-on.
 ghost use mathlib.Core.Path.{_≡_};
 ghost use lib.ListN.{getD};
+ghost use Rattle.state.specs.Parts.{noZone, noGauge};
+ghost use Rattle.state.specs.With.{withZone, withVolt, withFan};
 ghost use Rattle.map.specs.Tables.{defaults};
 ghost use Rattle.state.specs.PowerOn.{defaultSetup, powerOn, atRest};
 use temperature::Reading;
@@ -182,4 +184,81 @@ pub fn power_on(setup: Setup) -> Chip
         },
         drive: drive,
     }
+}
+
+// ---- readings; zones, channels and fans count from 0
+
+// A zone's reading; missing where there is no such zone.
+pub fn zone_at(zones: [Zone; 6], zone: u8) -> Reading
+    ensures { λ r. ⌜ r ≡ getD zones zone noZone .reading ⌝ }
+{
+    let at = zone as usize;
+    if at < 6 {
+        let z = zones[at];
+        return z.reading;
+    }
+    Reading::Missing
+}
+
+// A voltage's reading; missing where there is no such channel.
+pub fn volt_at(volts: [Gauge; 16], channel: u8) -> Count
+    ensures { λ r. ⌜ r ≡ getD volts channel noGauge .count ⌝ }
+{
+    let at = channel as usize;
+    if at < 16 {
+        let gauge = volts[at];
+        return gauge.count;
+    }
+    Count::Missing
+}
+
+// A fan's reading; missing where there is no such fan.
+pub fn fan_at(fans: [Gauge; 4], fan: u8) -> Count
+    ensures { λ r. ⌜ r ≡ getD fans fan noGauge .count ⌝ }
+{
+    let at = fan as usize;
+    if at < 4 {
+        let gauge = fans[at];
+        return gauge.count;
+    }
+    Count::Missing
+}
+
+// The chip with a zone's reading; unchanged where there is no such zone.
+pub fn with_zone(chip: Chip, zone: u8, reading: Reading) -> Chip
+    ensures { λ r. ⌜ r ≡ withZone chip zone reading ⌝ }
+{
+    let at = zone as usize;
+    let mut next = chip;
+    if at < 6 {
+        let z = Zone { reading: reading };
+        next.zones[at] = z;
+    }
+    next
+}
+
+// The chip with a voltage's reading; unchanged where there is no such channel.
+pub fn with_volt(chip: Chip, channel: u8, count: Count) -> Chip
+    ensures { λ r. ⌜ r ≡ withVolt chip channel count ⌝ }
+{
+    let at = channel as usize;
+    let mut next = chip;
+    if at < 16 {
+        let gauge = Gauge { count: count };
+        next.volts[at] = gauge;
+    }
+    next
+}
+
+// The chip with a fan's reading; unchanged where there is no such fan.
+pub fn with_fan(chip: Chip, fan: u8, count: Count) -> Chip
+    ensures { λ r. ⌜ r ≡ withFan chip fan count ⌝ }
+{
+    let at = fan as usize;
+    let mut next = chip;
+    if at < 4 {
+        let gauge = Gauge { count: count };
+        next.fans[at] = gauge;
+    }
+    next
 }

@@ -1,0 +1,113 @@
+-- What a byte write changes of the chip, and what it keeps. Assumes nothing.
+use mathlib.Core.Path.{_≡_, refl, _∙_}
+use mathlib.Core.Bool.{Bool, true, false}
+use mathlib.Core.List.{List}
+use Prim.Native.Nat.{ℕ}
+use native.Mathlib.Omega.{arith}
+use Rattle.laws.specs.Pick.{pick}
+use Rattle.map.specs.declared.Kind.{Kind}
+use Rattle.map.specs.declared.Kind.the-variants.{Plain, Status, Whole, Half, Volt, FanLow, FanHigh, VoltLow, VoltHigh, FanLimitLow, FanLimitHigh}
+use Rattle.map.specs.Names.{TEMPERATURE-SOURCE-SELECT, CONFIGURATION, HALF}
+use Rattle.map.specs.Map.{homeOf}
+use Rattle.map.specs.Bits.{isSet}
+use Rattle.map.specs.Kind.{kindOf}
+use Rattle.temperature.specs.declared.Reading.{Reading}
+use Rattle.temperature.specs.Temperature.{readingOf, withHalf}
+use Rattle.state.specs.declared.Chip.{Chip}
+use Rattle.state.specs.declared.Zone.{Zone}
+use Rattle.state.specs.declared.Latch.{Latch}
+use Rattle.state.specs.Parts.{registerAt, zoneAt}
+use Rattle.state.specs.With.{withRegisters, withZones, withPin, withRegister, withZone}
+use Rattle.bus.specs.Write.{stored, cleared, zoneWritable, wroteWhole, wroteHalf, wroteKind, isShut, wroteHome, wroteRegister}
+
+-- ---- a write at a home: nothing, one register stored or cleared, or one zone's reading
+
+pub data Change (c : Chip) (a byte : ℕ) : Chip → Type 0 where
+  none : Change c a byte c
+  store : isShut (registerAt c CONFIGURATION) a ≡ false → (kindOf a ≡ Status → ⊥) → Change c a byte (stored c a byte)
+  clear : isShut (registerAt c CONFIGURATION) a ≡ false → kindOf a ≡ Status → Change c a byte (cleared c a byte)
+  zone : (i : ℕ) (r : Reading) → Change c a byte (withZone c i r)
+
+-- two constructors that `cc` finds equal
+pub never : _≡_ {A = ℕ} 0 1 → ⊥
+never e = omega arith
+
+module _ (c : Chip) (a byte : ℕ) where
+  zone-if : (t : Bool) (i : ℕ) (r : Reading) → Change c a byte (pick t (withZone c i r) c)
+  zone-if true i r = zone i r
+  zone-if false i r = none
+
+  by-kind : isShut (registerAt c CONFIGURATION) a ≡ false → (k : Kind) → kindOf a ≡ k → Change c a byte (wroteKind c a byte k)
+  unfolding wroteKind wroteWhole wroteHalf
+  by-kind f Plain e = store f (λ s. never (cc))
+  by-kind f Status e = clear f e
+  by-kind f (Whole i) e = zone-if (zoneWritable (registerAt c TEMPERATURE-SOURCE-SELECT) i) i (readingOf byte)
+  by-kind f (Half i) e = zone-if (zoneWritable (registerAt c TEMPERATURE-SOURCE-SELECT) i) i (withHalf (zoneAt c i) (isSet byte HALF))
+  by-kind f (Volt i) e = none
+  by-kind f (FanLow i) e = none
+  by-kind f (FanHigh i) e = none
+  by-kind f (VoltLow i) e = store f (λ s. never (cc))
+  by-kind f (VoltHigh i) e = store f (λ s. never (cc))
+  by-kind f (FanLimitLow i) e = store f (λ s. never (cc))
+  by-kind f (FanLimitHigh i) e = store f (λ s. never (cc))
+
+  -- every write is one of these
+  pub wrote-change : Change c a byte (wroteHome c a byte)
+  unfolding wroteHome
+  wrote-change = go (isShut (registerAt c CONFIGURATION) a) refl
+    where
+      go : (t : Bool) → isShut (registerAt c CONFIGURATION) a ≡ t → Change c a byte (pick t c (wroteKind c a byte (kindOf a)))
+      go true e = none
+      go false e = by-kind e (kindOf a) refl
+
+-- ---- what no write changes
+
+pub record Kept (c d : Chip) : Type 0 where
+  pub setup : d .setup ≡ c .setup
+  pub volts : d .volts ≡ c .volts
+  pub fans : d .fans ≡ c .fans
+  pub hot : d .hot ≡ c .hot
+  pub level : d .pin .level ≡ c .pin .level
+  pub drive : d .drive ≡ c .drive
+
+-- whatever registers, zones and latch it gets
+pub kept-but : (c : Chip) (r : List ℕ) (z : List Zone) (l : Latch) → Kept c (withPin (withZones (withRegisters c r) z) (record { level = c .pin .level; latch = l }))
+kept-but c r z l = record { setup = refl; volts = refl; fans = refl; hot = refl; level = refl; drive = refl }
+
+-- a chip keeps its own, and what is kept twice is kept
+pub kept-self : (c : Chip) → Kept c c
+kept-self c = kept-but c (c .registers) (c .zones) (c .pin .latch)
+
+pub kept-on : {c d e : Chip} → Kept c d → Kept d e → Kept c e
+kept-on p q = record {
+  setup = q .setup ∙ p .setup;
+  volts = q .volts ∙ p .volts;
+  fans = q .fans ∙ p .fans;
+  hot = q .hot ∙ p .hot;
+  level = q .level ∙ p .level;
+  drive = q .drive ∙ p .drive;
+}
+
+change-kept : (c : Chip) {a byte : ℕ} {d : Chip} → Change c a byte d → Kept c d
+unfolding stored cleared withRegister withZone
+change-kept c none = kept-but c _ _ _
+change-kept c (store f s) = kept-but c _ _ _
+change-kept c (clear f s) = kept-but c _ _ _
+change-kept c (zone i r) = kept-but c _ _ _
+
+change-pin : (c : Chip) {a byte : ℕ} {d : Chip} → Change c a byte d → d .pin ≡ c .pin
+unfolding stored cleared withRegister withZone
+change-pin c none = refl
+change-pin c (store f s) = refl
+change-pin c (clear f s) = refl
+change-pin c (zone i r) = refl
+
+-- a write to a register keeps the setup, the voltages, the fan counts, the hot inputs, the pin's level and the drive
+pub register-keeps : (c : Chip) (a byte : ℕ) → Kept c (wroteRegister c a byte)
+unfolding wroteRegister
+register-keeps c a byte = change-kept c (wrote-change c (homeOf a) byte)
+
+-- and the pin with its latch
+pub register-keeps-pin : (c : Chip) (a byte : ℕ) → wroteRegister c a byte .pin ≡ c .pin
+unfolding wroteRegister
+register-keeps-pin c a byte = change-pin c (wrote-change c (homeOf a) byte)

@@ -1,0 +1,27 @@
+-- Document 01, "Bus answers": "A register dump writes the 256 bytes that byte reads of 00h to FFh would show, in order, and returns 0 and
+-- 256. The chip and the bytes behind stay." Assumes nothing.
+use mathlib.Core.Path.{_≡_}
+use mathlib.Core.List.{List, _++_}
+use Prim.Native.Nat.{ℕ, _<_}
+use lib.Dec.{ltb}
+use lib.ListN.{length, drop, getD}
+use Rattle.laws.specs.Pick.{pick}
+use Rattle.laws.specs.Tab.{tab, tab-at}
+use Rattle.state.specs.declared.Chip.{Chip}
+use Rattle.bus.specs.declared.Dumped.{Dumped}
+use Rattle.bus.specs.Read.{shownRegister}
+
+unfoldable pub shownAll : Chip → List ℕ
+shownAll c = tab (shownRegister c) 256
+
+-- refusal 5: "the lent output has under 64 bytes (a register dump: under 256)"; "It returns its number and length 0"
+unfoldable pub dumpAnswer : List ℕ → Dumped
+dumpAnswer out = pick (ltb (length out) 256) (record { refusal = 5; length = 0 }) (record { refusal = 0; length = 256 })
+
+unfoldable pub dumpedInto : Chip → List ℕ → List ℕ
+dumpedInto c out = pick (ltb (length out) 256) out (shownAll c ++ drop 256 out)
+
+-- the dump at k is the read at k
+pub shown-at : (c : Chip) (k : ℕ) → k < 256 → getD (shownAll c) k 0 ≡ shownRegister c k
+unfolding shownAll
+shown-at c k h = tab-at (shownRegister c) 256 k 0 h

@@ -1,0 +1,11 @@
+pub mod Latch
+pub mod Write
+pub mod Read
+pub mod Dump
+pub mod Cases
+pub mod Mirrors
+pub mod Changes
+pub mod Transactions
+pub mod Locked
+pub mod Stands
+pub mod DumpAt

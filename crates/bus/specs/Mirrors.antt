@@ -1,0 +1,18 @@
+-- A mirror answers as its home does. Assumes nothing.
+use mathlib.Core.Path.{_≡_}
+use Prim.Native.Nat.{ℕ, _<_}
+use Rattle.map.specs.Map.{homeOf}
+use Rattle.map.specs.Laws.{home-home}
+use Rattle.state.specs.declared.Chip.{Chip}
+use Rattle.bus.specs.Write.{wroteRegister}
+use Rattle.bus.specs.Read.{shownRegister}
+
+-- a write to a mirror is the write to its home
+pub mirror-write : (c : Chip) (a byte : ℕ) → a < 256 → wroteRegister c a byte ≡ wroteRegister c (homeOf a) byte
+unfolding wroteRegister
+mirror-write c a byte h = rw (home-home a h)
+
+-- a mirror shows what its home shows
+pub mirror-shown : (c : Chip) (a : ℕ) → a < 256 → shownRegister c a ≡ shownRegister c (homeOf a)
+unfolding shownRegister
+mirror-shown c a h = rw (home-home a h)

@@ -1,0 +1,40 @@
+-- An error bit that stands. Assumes nothing.
+use mathlib.Core.Path.{_≡_, ap, _∙_}
+use Prim.Native.Nat.{ℕ, _^_, _<_}
+use native.Mathlib.Omega.{arith}
+use lib.Bits.{bitAnd, and-le-l}
+use lib.Dec.{T, eqb→eq, eqb-refl}
+use lib.Pow.{pow-lt}
+use Rattle.laws.specs.Store.{set-cases}
+use Rattle.laws.specs.Masks.{one-bit, none-part, stands-without}
+use Rattle.map.specs.declared.Kind.the-variants.{Status}
+use Rattle.map.specs.Map.{writableOf, homeOf}
+use Rattle.map.specs.Bits.{isSet}
+use Rattle.map.specs.Kind.{kindOf}
+use Rattle.state.specs.declared.Chip.{Chip}
+use Rattle.state.specs.Parts.{registerAt}
+use Rattle.state.specs.With.{withRegister, withZone}
+use Rattle.bus.specs.Write.{clearedByte, stored, cleared, wroteRegister}
+use Rattle.bus.specs.Changes.{Change, none, store, clear, zone, wrote-change}
+
+-- a written 0 keeps
+pub cleared-keeps : (old writable byte k : ℕ) → byte < 256 → k < 8 → T (isSet old (2 ^ k)) → (T (isSet byte (2 ^ k)) → ⊥) → T (isSet (clearedByte old writable byte) (2 ^ k))
+unfolding isSet clearedByte
+cleared-keeps old writable byte k b h stands unset =
+    let none : bitAnd byte (2 ^ k) ≡ 0 = one-bit byte k (λ e. unset (rw e (eqb-refl (2 ^ k)))) in
+    rw (stands-without 8 old (2 ^ k) (bitAnd byte writable) (pow-lt h) (omega (arith, and-le-l byte writable)) (eqb→eq _ _ stands) (none-part byte writable (2 ^ k) none)) (eqb-refl (2 ^ k))
+
+module _ (c : Chip) (a byte k : ℕ) (b : byte < 256) (h : k < 8) (status : kindOf a ≡ Status) (stands : T (isSet (registerAt c a) (2 ^ k))) where
+  change-stands : {home : ℕ} {d : Chip} → Change c home byte d → (home ≡ a → T (isSet byte (2 ^ k)) → ⊥) → T (isSet (registerAt d a) (2 ^ k))
+  unfolding registerAt withRegister withZone stored cleared
+  change-stands none unless = stands
+  change-stands {home} (store f s) unless =
+      set-cases (λ (x : ℕ). T (isSet x (2 ^ k))) (c .registers) home a _ 0 stands (λ e. absurd (s (ap kindOf e ∙ status)))
+  change-stands {home} (clear f s) unless =
+      set-cases (λ (x : ℕ). T (isSet x (2 ^ k))) (c .registers) home a _ 0 stands (λ e. cleared-keeps _ (writableOf home) byte k b h (rw e stands) (unless e))
+  change-stands (zone i r) unless = stands
+
+  -- an error bit that stands stays, unless a 1 is written to it, at its own address or a mirror's
+  pub error-stays : (address : ℕ) → (homeOf address ≡ a → T (isSet byte (2 ^ k)) → ⊥) → T (isSet (registerAt (wroteRegister c address byte) a) (2 ^ k))
+  unfolding wroteRegister
+  error-stays address unless = change-stands (wrote-change c (homeOf address) byte) unless

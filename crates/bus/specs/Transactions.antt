@@ -1,0 +1,131 @@
+-- What a bus transaction changes and what it keeps, and so any list of them. Assumes nothing.
+use mathlib.Core.Path.{_≡_, refl, ap, _∙_}
+use mathlib.Core.Bool.{Bool, true, false}
+use mathlib.Core.List.{List, [], _∷_}
+use Prim.Native.Nat.{ℕ}
+use Rattle.laws.specs.Pick.{pick}
+use Rattle.state.specs.declared.Chip.{Chip}
+use Rattle.state.specs.declared.Latch.{Latch}
+use Rattle.state.specs.declared.Latch.the-variants.{Held}
+use Rattle.state.specs.With.{withPin}
+use Rattle.bus.specs.declared.Written.{Written}
+use Rattle.bus.specs.declared.Seen.{Seen}
+use Rattle.bus.specs.declared.Shown.the-variants.{Byte, NoByte}
+use Rattle.bus.specs.Latch.{latchBy, latchAfter, isOurs, transacted}
+use Rattle.bus.specs.Write.{wroteRegister, wroteByte}
+use Rattle.bus.specs.Read.{shownRegister, readByte}
+use Rattle.bus.specs.Changes.{Kept, kept-but, kept-self, kept-on, register-keeps, register-keeps-pin}
+
+-- ---- one transaction
+
+-- d is c but for its latch
+pub record ButLatch (c d : Chip) : Type 0 where
+  pub kept : Kept c d
+  pub registers : d .registers ≡ c .registers
+  pub zones : d .zones ≡ c .zones
+
+module _ (c : Chip) (address : ℕ) where
+  -- a transaction as such changes nothing but the latch
+  pub transacted-keeps : ButLatch c (transacted c address)
+  unfolding transacted
+  transacted-keeps = record { kept = kept-but c _ _ _; registers = refl; zones = refl }
+
+  -- a read leaves the chip as any transaction does
+  pub read-chip : (a : ℕ) → readByte c address a .chip ≡ transacted c address
+  unfolding readByte
+  read-chip a = go (isOurs (transacted c address .pin .latch) address)
+    where
+      go : (t : Bool) → pick {A = Seen} t (record { chip = transacted c address; shown = Byte (shownRegister (transacted c address) a) }) (record { chip = transacted c address; shown = NoByte }) .chip ≡ transacted c address
+      go true = refl
+      go false = refl
+
+  -- so a read changes nothing but the latch
+  pub read-keeps : (a : ℕ) → ButLatch c (readByte c address a .chip)
+  read-keeps a = rw (read-chip a) transacted-keeps
+
+  module _ (other : isOurs (transacted c address .pin .latch) address ≡ false) (a : ℕ) where
+    -- a read for another address shows nothing, and leaves the chip as any transaction does
+    pub other-read : readByte c address a ≡ record { chip = transacted c address; shown = NoByte }
+    unfolding readByte
+    other-read = rw other
+
+    -- a write for another address is not acknowledged, and leaves the chip as any transaction does
+    pub other-write : (byte : ℕ) → wroteByte c address a byte ≡ record { chip = transacted c address; ack = false }
+    unfolding wroteByte
+    other-write byte = rw other
+
+  -- the chip after a write is as any transaction leaves it, or that with one register written
+  pub write-cases : (P : Chip → Type 0) (a byte : ℕ) → P (transacted c address) → P (wroteRegister (transacted c address) a byte) → P (wroteByte c address a byte .chip)
+  unfolding wroteByte
+  write-cases P a byte p q = go (isOurs (transacted c address .pin .latch) address)
+    where
+      go : (t : Bool) → P (pick {A = Written} t (record { chip = wroteRegister (transacted c address) a byte; ack = true }) (record { chip = transacted c address; ack = false }) .chip)
+      go true = q
+      go false = p
+
+  -- a write keeps the setup, the voltages, the fan counts, the hot inputs, the pin's level and the drive
+  pub write-keeps : (a byte : ℕ) → Kept c (wroteByte c address a byte .chip)
+  write-keeps a byte =
+      write-cases (Kept c) a byte (transacted-keeps .kept) (kept-on (transacted-keeps .kept) (register-keeps (transacted c address) a byte))
+
+  -- ---- the latch
+
+  module _ {ours : ℕ} (held : c .pin .latch ≡ Held ours) where
+    latch-stays : latchAfter (c .pin) address ≡ c .pin .latch
+    unfolding latchAfter latchBy
+    latch-stays = rw held
+
+    -- once an address is latched, a transaction as such changes nothing
+    pub held-same : transacted c address ≡ c
+    unfolding transacted
+    held-same = ap (λ (l : Latch). withPin c (record { level = c .pin .level; latch = l })) latch-stays
+
+    -- a latched address stays
+    pub held-stays : transacted c address .pin .latch ≡ Held ours
+    held-stays = ap (λ (d : Chip). d .pin .latch) held-same ∙ held
+
+    -- so it does after a write
+    pub held-stays-write : (a byte : ℕ) → wroteByte c address a byte .chip .pin .latch ≡ Held ours
+    held-stays-write a byte =
+        write-cases (λ (d : Chip). d .pin .latch ≡ Held ours) a byte held-stays (rw (register-keeps-pin (transacted c address) a byte) held-stays)
+
+-- ---- any list of them
+
+-- a byte write or a byte read
+pub data Transaction : Type 0 where
+  write : (address register byte : ℕ) → Transaction
+  read : (address register : ℕ) → Transaction
+
+-- the chip after one, and after all in order
+unfoldable pub after : Chip → Transaction → Chip
+after c (write address a byte) = wroteByte c address a byte .chip
+after c (read address a) = readByte c address a .chip
+
+unfoldable pub afterAll : Chip → List Transaction → Chip
+afterAll c [] = c
+afterAll c (t ∷ ts) = afterAll (after c t) ts
+
+-- what a write and a transaction as such keep, any list of transactions keeps
+module _ (P : Chip → Type 0)
+    (step : (c : Chip) (address : ℕ) → P c → P (transacted c address))
+    (wrote : (c : Chip) (a byte : ℕ) → P c → P (wroteRegister c a byte)) where
+  after-keeps : (c : Chip) (t : Transaction) → P c → P (after c t)
+  unfolding after
+  after-keeps c (write address a byte) p =
+      write-cases c address P a byte (step c address p) (wrote (transacted c address) a byte (step c address p))
+  after-keeps c (read address a) p = rw (read-chip c address a) (step c address p)
+
+  pub all-keep : (ts : List Transaction) (c : Chip) → P c → P (afterAll c ts)
+  unfolding afterAll
+  all-keep [] c p = p
+  all-keep (t ∷ ts) c p = all-keep ts (after c t) (after-keeps c t p)
+
+-- no list of transactions changes the setup, the voltages, the fan counts, the hot inputs, the pin's level or the drive
+pub all-kept : (c : Chip) (ts : List Transaction) → Kept c (afterAll c ts)
+all-kept c ts =
+    all-keep (Kept c) (λ d address k. kept-on k (transacted-keeps d address .kept)) (λ d a byte k. kept-on k (register-keeps d a byte)) ts c (kept-self c)
+
+-- once latched, the address stays whatever comes
+pub all-held : (c : Chip) (ours : ℕ) → c .pin .latch ≡ Held ours → (ts : List Transaction) → afterAll c ts .pin .latch ≡ Held ours
+all-held c ours held ts =
+    all-keep (λ (d : Chip). d .pin .latch ≡ Held ours) (λ d address h. held-stays d address h) (λ d a byte h. rw (register-keeps-pin d a byte) h) ts c held

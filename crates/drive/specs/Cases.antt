@@ -1,0 +1,42 @@
+-- Worked cases of the stages, from document 01. negsuc n is -(n + 1). Assumes nothing.
+use mathlib.Core.Path.{_≡_, refl}
+use mathlib.Core.Bool.{true, false}
+use mathlib.Core.List.{List, [], _∷_}
+use lib.IntN.{pos, negsuc}
+use lib.ListN.{replicate}
+use Rattle.laws.specs.Count.{countTo}
+use Rattle.map.specs.Bits.{isSet}
+use Rattle.temperature.specs.declared.Reading.the-variants.{Taken, Missing}
+use Rattle.state.specs.declared.Boost.the-variants as boost
+use Rattle.state.specs.declared.Override.the-variants as override
+use Rattle.state.specs.PowerOn.{defaultSetup}
+use Rattle.drive.specs.Tables.{unitOf, tableOf, sumTo, isReached, thresholdReached, notAbove, settled, newStep, askedDuty}
+use Rattle.drive.specs.Boosts.{isLatched, isBoosted, boostEnabled}
+use Rattle.drive.specs.Ramps.{delayOf, movedLevel, rampedOn}
+use Rattle.drive.specs.Duties.{boundLargest, tablesAsk, fanDuty, loadedStart, kickedFan}
+
+-- "step from 12 at h = 70 is 3, from 0 it is 2": thresholds 64, 68, 72, .. half degrees. In half degrees (LT12_RS) they are 62, 64, .., so
+-- at 70 five are reached, and six with the hysteresis
+pub steps : (newStep (tableOf defaultSetup 0x00 0) 12 (Taken (pos 70)) ≡ 3) × (newStep (tableOf defaultSetup 0x00 0) 0 (Taken (pos 70)) ≡ 2) × (newStep (tableOf defaultSetup 0x00 0) 0 (Taken (pos 68)) ≡ 2) × (newStep (tableOf defaultSetup 0x00 0) 0 (Taken (pos 67)) ≡ 1) × (newStep (tableOf defaultSetup 0x00 0) 12 (Taken (negsuc 253)) ≡ 0) × (newStep (tableOf defaultSetup 0x10 0) 0 (Taken (pos 70)) ≡ 5) × (newStep (tableOf defaultSetup 0x10 0) 12 (Taken (pos 70)) ≡ 6) × (newStep (tableOf defaultSetup 0x10 2) 0 (Taken (pos 70)) ≡ 2) × (newStep (tableOf defaultSetup 0x00 3) 5 Missing ≡ 12)
+unfolding newStep tableOf unitOf isSet settled notAbove countTo thresholdReached isReached sumTo defaultSetup
+steps = (refl, refl, refl, refl, refl, refl, refl, refl, refl)
+
+-- boost 40 degrees, hysteresis 3: on from 80 half degrees, kept from 74 up, off at 73; missing is on; -10 degrees with its sign
+pub boosts : (isBoosted true (boost.At (pos 40)) 3 (Taken (pos 80)) false ≡ true) × (isBoosted true (boost.At (pos 40)) 3 (Taken (pos 79)) false ≡ false) × (isBoosted true (boost.At (pos 40)) 3 (Taken (pos 74)) true ≡ true) × (isBoosted true (boost.At (pos 40)) 3 (Taken (pos 73)) true ≡ false) × (isBoosted true (boost.At (pos 40)) 3 Missing false ≡ true) × (isBoosted true boost.Off 3 Missing true ≡ false) × (isBoosted false (boost.At (pos 40)) 3 Missing true ≡ false) × (isBoosted true (boost.At (negsuc 9)) 3 (Taken (negsuc 19)) false ≡ true) × (isBoosted true (boost.At (negsuc 9)) 3 (Taken (negsuc 26)) true ≡ false)
+unfolding isBoosted isLatched
+boosts = (refl, refl, refl, refl, refl, refl, refl, refl, refl)
+
+-- delay 0 goes at once; delay 2 moves at every second tick; levels stay within 0 to 256; PROCHOT has the high half of BFh
+pub ramps : (rampedOn (record { level = 0; wait = 7 }) true 0 ≡ record { level = 256; wait = 0 }) × (rampedOn (record { level = 256; wait = 0 }) false 0 ≡ record { level = 0; wait = 0 }) × (rampedOn (record { level = 32; wait = 0 }) true 2 ≡ record { level = 32; wait = 1 }) × (rampedOn (record { level = 32; wait = 1 }) true 2 ≡ record { level = 48; wait = 0 }) × (rampedOn (record { level = 250; wait = 1 }) true 2 ≡ record { level = 256; wait = 0 }) × (rampedOn (record { level = 10; wait = 9 }) false 1 ≡ record { level = 0; wait = 0 }) × (delayOf 0x21 1 ≡ 1) × (delayOf 0x21 2 ≡ 2)
+unfolding rampedOn movedLevel delayOf
+ramps = (refl, refl, refl, refl, refl, refl, refl, refl)
+
+-- binding 17 is table 1 and VRD1; an override stands in place of the tables only; nothing bound asks 0
+pub duties : (fanDuty 17 override.Off (96 ∷ 240 ∷ 240 ∷ 240 ∷ []) (16 ∷ 256 ∷ 256 ∷ 256 ∷ []) false ≡ 96) × (fanDuty 17 (override.At 10) (96 ∷ 240 ∷ 240 ∷ 240 ∷ []) (16 ∷ 256 ∷ 256 ∷ 256 ∷ []) false ≡ 16) × (fanDuty 17 (override.At 10) (96 ∷ 240 ∷ 240 ∷ 240 ∷ []) (16 ∷ 256 ∷ 256 ∷ 256 ∷ []) true ≡ 256) × (fanDuty 0 override.Off (96 ∷ 240 ∷ 240 ∷ 240 ∷ []) (16 ∷ 256 ∷ 256 ∷ 256 ∷ []) false ≡ 0)
+unfolding fanDuty tablesAsk boundLargest isSet
+duties = (refl, refl, refl, refl)
+
+-- loaded only where the duty was 0; the count falls even where the duty fell back to 0
+pub kicks : (kickedFan 0 96 0 128 2 ≡ record { output = 128; start = 1 }) × (kickedFan 96 96 1 128 2 ≡ record { output = 128; start = 0 }) × (kickedFan 96 96 0 128 2 ≡ record { output = 96; start = 0 }) × (kickedFan 96 0 1 128 2 ≡ record { output = 128; start = 0 }) × (kickedFan 0 0 0 128 2 ≡ record { output = 0; start = 0 }) × (kickedFan 0 200 0 128 0 ≡ record { output = 200; start = 0 })
+unfolding kickedFan loadedStart
+kicks = (refl, refl, refl, refl, refl, refl)

@@ -1,0 +1,9 @@
+pub mod Tables
+pub mod Boosts
+pub mod Ramps
+pub mod Duties
+pub mod Tick
+pub mod Cases
+pub mod Rising
+pub mod TickOrder
+pub mod Range

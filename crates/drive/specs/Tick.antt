@@ -1,0 +1,98 @@
+-- Document 01, "Fan duties": "Only a tick changes them, in this order." Assumes nothing.
+use mathlib.Core.Bool.{Bool, true, false}
+use mathlib.Core.List.{List, [], _∷_}
+use Prim.Native.Nat.{ℕ}
+use lib.ListN.{getD}
+use Rattle.laws.specs.Pick.{either}
+use Rattle.map.specs.Names.{TEMPERATURE-SOURCE-SELECT, FAN-CONTROL-BINDINGS, SPECIAL-FUNCTION-CONTROL-2, PWM-RAMP-CONTROL}
+use Rattle.temperature.specs.declared.Reading.{Reading}
+use Rattle.state.specs.declared.Chip.{Chip}
+use Rattle.state.specs.declared.Drive.{Drive}
+use Rattle.state.specs.declared.Setup.{Setup}
+use Rattle.state.specs.declared.Ramp.{Ramp}
+use Rattle.state.specs.Parts.{noRamp, noBoost, noOverride, registerAt, zoneAt, hotAt}
+use Rattle.state.specs.With.{withDrive}
+use Rattle.drive.specs.declared.Ask.{Ask}
+use Rattle.drive.specs.declared.Kick.{Kick}
+use Rattle.drive.specs.declared.Ticked.{Ticked}
+use Rattle.drive.specs.Tables.{followedZone, tableOf, newStep, askedDuty}
+use Rattle.drive.specs.Boosts.{isBoosted, boostEnabled}
+use Rattle.drive.specs.Ramps.{delayOf, rampedOn}
+use Rattle.drive.specs.Duties.{fanDuty, kickedFan}
+
+-- ---- 1. tables
+
+-- the reading that a table follows
+unfoldable pub followed : Chip → ℕ → Reading
+followed c table = followedZone (c .zones) (registerAt c TEMPERATURE-SOURCE-SELECT) (registerAt c FAN-CONTROL-BINDINGS) table
+
+unfoldable pub stepAfter : Chip → ℕ → ℕ
+stepAfter c table = newStep (tableOf (c .setup) (registerAt c SPECIAL-FUNCTION-CONTROL-2) table) (getD (c .drive .steps) table 0) (followed c table)
+
+unfoldable pub askAfter : Chip → ℕ → Ask
+askAfter c table = record { step = stepAfter c table; duty = askedDuty (c .setup .duties) (stepAfter c table) (followed c table) }
+
+unfoldable pub stepsAfter : Chip → List ℕ
+stepsAfter c = askAfter c 0 .step ∷ askAfter c 1 .step ∷ askAfter c 2 .step ∷ askAfter c 3 .step ∷ []
+
+unfoldable pub asksAfter : Chip → List ℕ
+asksAfter c = askAfter c 0 .duty ∷ askAfter c 1 .duty ∷ askAfter c 2 .duty ∷ askAfter c 3 .duty ∷ []
+
+-- ---- 2. boost
+
+unfoldable pub boostAfter : Chip → ℕ → Bool
+boostAfter c zone =
+    isBoosted (boostEnabled (registerAt c TEMPERATURE-SOURCE-SELECT) zone) (getD (c .setup .boosts) zone noBoost .boost) (c .setup .«boost_hysteresis») (zoneAt c zone) (getD (c .drive .boosts) zone false)
+
+unfoldable pub boostsAfter : Chip → List Bool
+boostsAfter c =
+    boostAfter c 0 ∷ boostAfter c 1 ∷ boostAfter c 2 ∷ boostAfter c 3 ∷ boostAfter c 4 ∷ boostAfter c 5 ∷ []
+
+unfoldable pub anyOn : List Bool → Bool
+anyOn [] = false
+anyOn (b ∷ bs) = either b (anyOn bs)
+
+-- ---- 3. ramps
+
+unfoldable pub rampAfter : Chip → ℕ → Ramp
+rampAfter c input = rampedOn (getD (c .drive .ramps) input noRamp) (hotAt c input) (delayOf (registerAt c PWM-RAMP-CONTROL) input)
+
+unfoldable pub rampsAfter : Chip → List Ramp
+rampsAfter c = rampAfter c 0 ∷ rampAfter c 1 ∷ rampAfter c 2 ∷ rampAfter c 3 ∷ []
+
+unfoldable pub levelsOf : List Ramp → List ℕ
+levelsOf ramps =
+    getD ramps 0 noRamp .level ∷ getD ramps 1 noRamp .level ∷ getD ramps 2 noRamp .level ∷ getD ramps 3 noRamp .level ∷ []
+
+-- ---- 4. duties
+
+unfoldable pub dutyAfter : Setup → ℕ → List ℕ → List ℕ → Bool → ℕ
+dutyAfter s fan asks levels boosted =
+    fanDuty (getD (s .bindings) fan 0) (getD (s .overrides) fan noOverride .duty) asks levels boosted
+
+-- a fan's duty after a tick, before the start-up kick; fans count from 0
+unfoldable pub dutyOf : Chip → ℕ → ℕ
+dutyOf c fan = dutyAfter (c .setup) fan (asksAfter c) (levelsOf (rampsAfter c)) (anyOn (boostsAfter c))
+
+-- ---- 5. kick
+
+unfoldable pub kickAfter : Chip → ℕ → ℕ → Kick
+kickAfter c fan duty =
+    kickedFan (getD (c .drive .duties) fan 0) duty (getD (c .drive .starts) fan 0) (getD (c .setup .«start_duties») fan 0) (getD (c .setup .«start_counts») fan 0)
+
+-- ---- the tick
+
+unfoldable pub driveAfter : Chip → Drive
+driveAfter c = record {
+  steps = stepsAfter c;
+  boosts = boostsAfter c;
+  ramps = rampsAfter c;
+  duties = dutyOf c 0 ∷ dutyOf c 1 ∷ [];
+  starts = kickAfter c 0 (dutyOf c 0) .start ∷ kickAfter c 1 (dutyOf c 1) .start ∷ [];
+}
+
+unfoldable pub outputsAfter : Chip → List ℕ
+outputsAfter c = kickAfter c 0 (dutyOf c 0) .output ∷ kickAfter c 1 (dutyOf c 1) .output ∷ []
+
+unfoldable pub tickedChip : Chip → Ticked
+tickedChip c = record { chip = withDrive c (driveAfter c); outputs = outputsAfter c }

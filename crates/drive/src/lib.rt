@@ -1,0 +1,549 @@
+// What turns the fans: tables, boosts, ramps, duties and the kick (document 01, "Fan duties").
+ghost use mathlib.Core.Path.{_≡_};
+ghost use Prim.Native.Nat.{suc, max, _<_};
+ghost use lib.IntN.{pos};
+ghost use lib.ListN.{getD};
+ghost use Rattle.laws.specs.Pick.{pick};
+ghost use Rattle.laws.specs.Tab.{tab};
+ghost use Rattle.drive.specs.Tables.{joinedZone, zoneIn, zoneOne, zoneTwo, followedZone, unitOf, tableOf, sumTo, isReached, notAbove, newStep, askedDuty};
+ghost use Rattle.drive.specs.Boosts.{isLatched, isBoosted, boostEnabled};
+ghost use Rattle.drive.specs.Ramps.{delayOf, movedLevel, rampedOn};
+ghost use Rattle.drive.specs.Duties.{boundLargest, tablesAsk, fanDuty, loadedStart, kickedFan};
+ghost use Rattle.drive.specs.Tick.{askAfter, boostAfter, boostsAfter, anyOn, rampAfter, rampsAfter, levelsOf, dutyAfter, kickAfter, tickedChip};
+use map::bits;
+use map::registers;
+use state::Boost;
+use state::Chip;
+use state::Drive;
+use state::Override;
+use state::Ramp;
+use state::Setup;
+use state::Zone;
+use temperature::Reading;
+
+// The largest duty, 100 %.
+const FULL: u16 = 256;
+
+// What a ramp moves by.
+const RAMP_STEP: u16 = 16;
+
+// A table: base in degrees, and how many half degrees a count of its offsets and hysteresis is.
+pub struct Table {
+    pub base: i8,
+    pub unit: u8,
+    pub offsets: [u8; 12],
+    pub hysteresis: u8,
+}
+
+// A fan's output, and what is left of its start count.
+pub struct Kick {
+    pub output: u16,
+    pub start: u8,
+}
+
+// The chip after a tick, and its two outputs.
+pub struct Ticked {
+    pub chip: Chip,
+    pub outputs: [u16; 2],
+}
+
+// Zone 1 or 2: its first reading, or the hotter of both while the second is enabled.
+fn joined_zone(enabled: bool, a: Reading, b: Reading) -> Reading
+    ensures { λ r. ⌜ r ≡ joinedZone enabled a b ⌝ }
+{
+    if enabled {
+        temperature::hotter(a, b)
+    } else {
+        a
+    }
+}
+
+fn zone_one(zones: [Zone; 6], source: u8) -> Reading
+    ensures { λ r. ⌜ r ≡ zoneOne zones source ⌝ }
+{
+    let a = zones[0];
+    let b = zones[1];
+    let first = a.reading;
+    let second = b.reading;
+    joined_zone(map::is_set(source, bits::Z1BE), first, second)
+}
+
+fn zone_two(zones: [Zone; 6], source: u8) -> Reading
+    ensures { λ r. ⌜ r ≡ zoneTwo zones source ⌝ }
+{
+    let a = zones[2];
+    let b = zones[3];
+    let first = a.reading;
+    let second = b.reading;
+    joined_zone(map::is_set(source, bits::Z2BE), first, second)
+}
+
+fn one_or_three(zones: [Zone; 6], source: u8, one: bool) -> Reading
+    ensures { λ r. ⌜ r ≡ pick one (zoneOne zones source) (zoneIn zones 4) ⌝ }
+{
+    if one {
+        return zone_one(zones, source);
+    }
+    let three = zones[4];
+    three.reading
+}
+
+fn two_or_four(zones: [Zone; 6], source: u8, two: bool) -> Reading
+    ensures { λ r. ⌜ r ≡ pick two (zoneTwo zones source) (zoneIn zones 5) ⌝ }
+{
+    if two {
+        return zone_two(zones, source);
+    }
+    let four = zones[5];
+    four.reading
+}
+
+// The reading that a table follows, by 31h and 35h. Tables count from 0.
+pub fn followed_zone(zones: [Zone; 6], source: u8, bindings: u8, table: u8) -> Reading
+    ensures { λ r. ⌜ r ≡ followedZone zones source bindings table ⌝ }
+{
+    match table {
+        0 => one_or_three(zones, source, map::is_set(bindings, bits::LUT1_Z1)),
+        1 => two_or_four(zones, source, map::is_set(bindings, bits::LUT2_Z2)),
+        2 => one_or_three(zones, source, map::is_set(bindings, bits::LUT3_Z1)),
+        _ => two_or_four(zones, source, map::is_set(bindings, bits::LUT4_Z2)),
+    }
+}
+
+// How many half degrees a count of an offset or hysteresis is.
+fn unit_of(halves: bool) -> u8
+    ensures { λ r. ⌜ r ≡ unitOf halves ⌝ }
+{
+    if halves { 1 } else { 2 }
+}
+
+// A table's setup, by BDh. Tables count from 0.
+pub fn table_of(setup: Setup, control: u8, table: u8) -> Table
+    ensures { λ r. ⌜ r ≡ tableOf setup control table ⌝ }
+{
+    let base = base_of(setup, table);
+    if table < 2 {
+        let offsets = setup.offsets12;
+        return Table {
+            base: base,
+            unit: unit_of(map::is_set(control, bits::LT12_RS)),
+            offsets: offsets,
+            hysteresis: setup.hystereses[0],
+        };
+    }
+    let offsets = setup.offsets34;
+    Table {
+        base: base,
+        unit: unit_of(map::is_set(control, bits::LT34_RS)),
+        offsets: offsets,
+        hysteresis: setup.hystereses[1],
+    }
+}
+
+fn base_of(setup: Setup, table: u8) -> i8
+    ensures { λ r. ⌜ r ≡ getD (setup .bases) table (pos 0) ⌝ }
+{
+    let i = table as usize;
+    if i < 4 { setup.bases[i] } else { 0 }
+}
+
+// The sums of a table's first one, two, .. twelve offsets.
+fn sums(offsets: [u8; 12]) -> [u16; 12]
+    ensures { λ r. ⌜ r ≡ tab (λ k. sumTo offsets (suc k)) 12 ⌝ }
+{
+    let mut out = [0u16; 12];
+    let mut sum: u16 = 0;
+    let mut k: usize = 0;
+    while k < 12 {
+        sum += offsets[k] as u16;
+        out[k] = sum;
+        k += 1;
+    }
+    out
+}
+
+// Whether a threshold, as many counts above the base as the sum says, is not above the reading.
+fn is_reached(base: i8, unit: u8, sum: u16, reading: i32) -> bool
+    ensures { λ r. ⌜ r ≡ isReached base unit sum reading ⌝ }
+{
+    let threshold = 2 * (base as i64) + (unit as i64) * (sum as i64);
+    threshold <= reading as i64
+}
+
+// How many of a table's twelve thresholds are not above the reading.
+fn not_above(table: Table, reading: i32) -> u8
+    ensures { λ r. ⌜ r ≡ notAbove table reading ⌝ }
+{
+    let offsets = table.offsets;
+    let rises = sums(offsets);
+    let mut n: u8 = 0;
+    let mut k: usize = 0;
+    while k < 12 {
+        if is_reached(table.base, table.unit, rises[k], reading) {
+            n += 1;
+        }
+        k += 1;
+    }
+    n
+}
+
+// A table's new step.
+pub fn new_step(table: Table, old: u8, reading: Reading) -> u8
+    ensures { λ r. ⌜ r ≡ newStep table old reading ⌝ }
+{
+    let Reading::Taken(h) = reading else {
+        return 12;
+    };
+    let low = h as i32;
+    let now = not_above(table, low);
+    if now < old {
+        let high = low + (table.unit as i32) * (table.hysteresis as i32);
+        let later = not_above(table, high);
+        if old < later { old } else { later }
+    } else {
+        now
+    }
+}
+
+// The duty that a table asks for at its step.
+pub fn asked_duty(duties: [u16; 13], step: u8, reading: Reading) -> u16
+    ensures { λ r. ⌜ r ≡ askedDuty duties step reading ⌝ }
+{
+    let Reading::Taken(_) = reading else {
+        return FULL;
+    };
+    let k = step as usize;
+    if k < 13 { duties[k] } else { 0 }
+}
+
+// Boost and hysteresis are in degrees, h in half degrees.
+fn is_latched(boost: i8, hysteresis: u8, h: i16, was: bool) -> bool
+    ensures { λ r. ⌜ r ≡ isLatched boost hysteresis h was ⌝ }
+{
+    let on = 2 * (boost as i32);
+    let off = on - 2 * (hysteresis as i32);
+    let x = h as i32;
+    if on <= x {
+        true
+    } else if x < off {
+        false
+    } else {
+        was
+    }
+}
+
+// Whether a zone's boost is on.
+pub fn is_boosted(enabled: bool, boost: Boost, hysteresis: u8, reading: Reading, was: bool) -> bool
+    ensures { λ r. ⌜ r ≡ isBoosted enabled boost hysteresis reading was ⌝ }
+{
+    if enabled {
+        let Boost::At(b) = boost else {
+            return false;
+        };
+        let Reading::Taken(h) = reading else {
+            return true;
+        };
+        is_latched(b, hysteresis, h, was)
+    } else {
+        false
+    }
+}
+
+// Whether a zone can boost, by 31h: 1b and 2b only while enabled.
+pub fn boost_enabled(source: u8, zone: u8) -> bool
+    ensures { λ r. ⌜ r ≡ boostEnabled source zone ⌝ }
+{
+    match zone {
+        1 => map::is_set(source, bits::Z1BE),
+        3 => map::is_set(source, bits::Z2BE),
+        _ => true,
+    }
+}
+
+// The delay of a hot input's ramp, by BFh.
+pub fn delay_of(control: u8, input: u8) -> u8
+    ensures { λ r. ⌜ r ≡ delayOf control input ⌝ }
+{
+    if input < 2 {
+        control % 16
+    } else {
+        control / 16
+    }
+}
+
+// A ramp's level, moved one step, within 0 to 256.
+fn moved_level(level: u16, hot: bool) -> u16
+    ensures { λ r. ⌜ r ≡ movedLevel level hot ⌝ }
+{
+    if hot {
+        if level < FULL - RAMP_STEP {
+            level + RAMP_STEP
+        } else {
+            FULL
+        }
+    } else if level < RAMP_STEP {
+        0
+    } else if FULL < level - RAMP_STEP {
+        FULL
+    } else {
+        level - RAMP_STEP
+    }
+}
+
+// A ramp after a tick.
+pub fn ramped_on(ramp: Ramp, hot: bool, delay: u8) -> Ramp
+    ensures { λ r. ⌜ r ≡ rampedOn ramp hot delay ⌝ }
+{
+    if delay == 0 {
+        let level = if hot { FULL } else { 0 };
+        return Ramp {
+            level: level,
+            wait: 0,
+        };
+    }
+    if ramp.wait < delay - 1 {
+        return Ramp {
+            level: ramp.level,
+            wait: ramp.wait + 1,
+        };
+    }
+    Ramp {
+        level: moved_level(ramp.level, hot),
+        wait: 0,
+    }
+}
+
+// The largest of the four values that are bound, or 0.
+fn bound_largest(bound: u8, values: [u16; 4]) -> u16
+    ensures { λ r. ⌜ r ≡ boundLargest bound values 4 ⌝ }
+{
+    let mut largest: u16 = 0;
+    let mut i: u8 = 0;
+    while i < 4 {
+        let value = values[i as usize];
+        if map::is_set(bound, 1u8 << i) {
+            largest = larger(largest, value);
+        }
+        i += 1;
+    }
+    largest
+}
+
+// What the tables ask of a fan; an override stands in their place.
+fn tables_ask(binding: u8, manual: Override, asks: [u16; 4]) -> u16
+    ensures { λ r. ⌜ r ≡ tablesAsk binding manual asks ⌝ }
+{
+    let Override::At(duty) = manual else {
+        return bound_largest(binding % 16, asks);
+    };
+    duty
+}
+
+fn larger(a: u16, b: u16) -> u16
+    ensures { λ r. ⌜ r ≡ max a b ⌝ }
+{
+    if a < b { b } else { a }
+}
+
+// A fan's duty.
+pub fn fan_duty(
+    binding: u8,
+    manual: Override,
+    asks: [u16; 4],
+    levels: [u16; 4],
+    boosted: bool,
+) -> u16
+    ensures { λ r. ⌜ r ≡ fanDuty binding manual asks levels boosted ⌝ }
+{
+    let ramps = bound_largest(binding / 16, levels);
+    let duty = larger(tables_ask(binding, manual, asks), ramps);
+    if boosted { larger(duty, FULL) } else { duty }
+}
+
+// A fan's output and start count, from its duty before and now.
+pub fn kicked_fan(was: u16, duty: u16, start: u8, start_duty: u16, start_count: u8) -> Kick
+    ensures { λ r. ⌜ r ≡ kickedFan was duty start «start_duty» «start_count» ⌝ }
+{
+    let loaded = loaded_start(was, duty, start, start_count);
+    if loaded == 0 {
+        return Kick {
+            output: duty,
+            start: 0,
+        };
+    }
+    Kick {
+        output: larger(duty, start_duty),
+        start: loaded - 1,
+    }
+}
+
+// The start count, loaded where the duty goes from 0 to more.
+fn loaded_start(was: u16, duty: u16, start: u8, start_count: u8) -> u8
+    ensures { λ r. ⌜ r ≡ loadedStart was duty start «start_count» ⌝ }
+{
+    if was == 0 {
+        if 0 < duty {
+            return start_count;
+        }
+    }
+    start
+}
+
+// ---- one tick of the chip
+
+// A table's step and the duty it asks for, after a tick.
+pub struct Ask {
+    pub step: u8,
+    pub duty: u16,
+}
+
+fn ask_after(chip: Chip, table: u8) -> Ask
+    requires { ⌜ table < 4 ⌝ }
+    ensures { λ r. ⌜ r ≡ askAfter chip table ⌝ }
+{
+    let zones = chip.zones;
+    let setup = chip.setup;
+    let drive = chip.drive;
+    let source = chip.registers[registers::TEMPERATURE_SOURCE_SELECT as usize];
+    let bindings = chip.registers[registers::FAN_CONTROL_BINDINGS as usize];
+    let control = chip.registers[registers::SPECIAL_FUNCTION_CONTROL_2 as usize];
+    let reading = followed_zone(zones, source, bindings, table);
+    let old = drive.steps[table as usize];
+    let step = new_step(table_of(setup, control, table), old, reading);
+    let duties = setup.duties;
+    Ask {
+        step: step,
+        duty: asked_duty(duties, step, reading),
+    }
+}
+
+fn boost_after(chip: Chip, zone: u8) -> bool
+    requires { ⌜ zone < 6 ⌝ }
+    ensures { λ r. ⌜ r ≡ boostAfter chip zone ⌝ }
+{
+    let i = zone as usize;
+    let z = chip.zones[i];
+    let reading = z.reading;
+    let setup = chip.setup;
+    let b = setup.boosts[i];
+    let boost = b.boost;
+    let drive = chip.drive;
+    let was = drive.boosts[i];
+    let source = chip.registers[registers::TEMPERATURE_SOURCE_SELECT as usize];
+    let enabled = boost_enabled(source, zone);
+    is_boosted(enabled, boost, setup.boost_hysteresis, reading, was)
+}
+
+fn boosts_after(chip: Chip) -> [bool; 6]
+    ensures { λ r. ⌜ r ≡ boostsAfter chip ⌝ }
+{
+    let b0 = boost_after(chip, 0);
+    let b1 = boost_after(chip, 1);
+    let b2 = boost_after(chip, 2);
+    let b3 = boost_after(chip, 3);
+    let b4 = boost_after(chip, 4);
+    let b5 = boost_after(chip, 5);
+    [b0, b1, b2, b3, b4, b5]
+}
+
+fn any_on(boosts: [bool; 6]) -> bool
+    ensures { λ r. ⌜ r ≡ anyOn boosts ⌝ }
+{
+    let mut i: usize = 0;
+    while i < 6 {
+        if boosts[i] {
+            return true;
+        }
+        i += 1;
+    }
+    false
+}
+
+fn ramp_after(chip: Chip, input: u8) -> Ramp
+    requires { ⌜ input < 4 ⌝ }
+    ensures { λ r. ⌜ r ≡ rampAfter chip input ⌝ }
+{
+    let i = input as usize;
+    let drive = chip.drive;
+    let ramp = drive.ramps[i];
+    let hot = chip.hot[i];
+    let control = chip.registers[registers::PWM_RAMP_CONTROL as usize];
+    ramped_on(ramp, hot, delay_of(control, input))
+}
+
+fn ramps_after(chip: Chip) -> [Ramp; 4]
+    ensures { λ r. ⌜ r ≡ rampsAfter chip ⌝ }
+{
+    let r0 = ramp_after(chip, 0);
+    let r1 = ramp_after(chip, 1);
+    let r2 = ramp_after(chip, 2);
+    let r3 = ramp_after(chip, 3);
+    [r0, r1, r2, r3]
+}
+
+fn levels_of(ramps: [Ramp; 4]) -> [u16; 4]
+    ensures { λ r. ⌜ r ≡ levelsOf ramps ⌝ }
+{
+    let r0 = ramps[0];
+    let r1 = ramps[1];
+    let r2 = ramps[2];
+    let r3 = ramps[3];
+    [r0.level, r1.level, r2.level, r3.level]
+}
+
+fn duty_after(setup: Setup, fan: usize, asks: [u16; 4], levels: [u16; 4], boosted: bool) -> u16
+    requires { ⌜ fan < 2 ⌝ }
+    ensures { λ r. ⌜ r ≡ dutyAfter setup fan asks levels boosted ⌝ }
+{
+    let o = setup.overrides[fan];
+    let manual = o.duty;
+    fan_duty(setup.bindings[fan], manual, asks, levels, boosted)
+}
+
+fn kick_after(chip: Chip, fan: usize, duty: u16) -> Kick
+    requires { ⌜ fan < 2 ⌝ }
+    ensures { λ r. ⌜ r ≡ kickAfter chip fan duty ⌝ }
+{
+    let drive = chip.drive;
+    let setup = chip.setup;
+    kicked_fan(
+        drive.duties[fan],
+        duty,
+        drive.starts[fan],
+        setup.start_duties[fan],
+        setup.start_counts[fan],
+    )
+}
+
+// One tick of 50 ms: tables, boosts, ramps, duties, kick. It changes nothing but the chip's drive.
+pub fn tick(chip: Chip) -> Ticked
+    ensures { λ r. ⌜ r ≡ tickedChip chip ⌝ }
+{
+    let a0 = ask_after(chip, 0);
+    let a1 = ask_after(chip, 1);
+    let a2 = ask_after(chip, 2);
+    let a3 = ask_after(chip, 3);
+    let asks = [a0.duty, a1.duty, a2.duty, a3.duty];
+    let boosts = boosts_after(chip);
+    let boosted = any_on(boosts);
+    let ramps = ramps_after(chip);
+    let levels = levels_of(ramps);
+    let setup = chip.setup;
+    let duty1 = duty_after(setup, 0, asks, levels, boosted);
+    let duty2 = duty_after(setup, 1, asks, levels, boosted);
+    let kick1 = kick_after(chip, 0, duty1);
+    let kick2 = kick_after(chip, 1, duty2);
+    let drive = Drive {
+        steps: [a0.step, a1.step, a2.step, a3.step],
+        boosts: boosts,
+        ramps: ramps,
+        duties: [duty1, duty2],
+        starts: [kick1.start, kick2.start],
+    };
+    let mut next = chip;
+    next.drive = drive;
+    Ticked {
+        chip: next,
+        outputs: [kick1.output, kick2.output],
+    }
+}

@@ -1,0 +1,17 @@
+use borrow.Author.Needs.{needs}
+use Rattle.sense.specs.Missing.{missed}
+use Rattle.sense.proofs.mark_missing.Statement.{statement}
+use Rattle.sense.proofs.mark_missing.Tie as tie
+
+miss-volts-requires : tie.Need-miss-volts-requires
+miss-volts-requires c κs = search needs
+
+miss-fans-requires : tie.Need-miss-fans-requires
+miss-fans-requires c κs = search needs
+
+returns : tie.Need-returns
+unfolding missed
+returns c = rw (c .miss-fans .ensures, c .before .before .miss-volts .ensures)
+
+pub mark-missing-spec : {M : Type 1} → statement M
+mark-missing-spec = tie.close (tie.spec miss-volts-requires miss-fans-requires returns)

@@ -1,0 +1,47 @@
+use mathlib.Core.Path.{refl}
+use borrow.Author.Needs.{needs}
+use Rattle.sense.specs.Events.{tookReset, resetFile}
+use Rattle.sense.proofs.take_reset.Statement.{statement}
+use Rattle.sense.proofs.take_reset.Tie as tie
+
+cast-configuration : tie.Need-cast-configuration
+cast-configuration c = search needs
+
+element-copy-out-configuration : tie.Need-element-copy-out-configuration
+element-copy-out-configuration c = search needs
+
+cast-sleep : tie.Need-cast-sleep
+cast-sleep c = search needs
+
+element-copy-out-sleep : tie.Need-element-copy-out-sleep
+element-copy-out-sleep c = search needs
+
+cast-next : tie.Need-cast-next
+cast-next c = search needs
+
+element-write-next : tie.Need-element-write-next
+element-write-next c = search needs
+
+cast-next-2 : tie.Need-cast-next-2
+cast-next-2 c = search needs
+
+element-write-next-2 : tie.Need-element-write-next-2
+element-write-next-2 c = search needs
+
+returns : tie.Need-returns
+unfolding tookReset resetFile
+returns c = refl
+
+pub take-reset-spec : {M : Type 1} → statement M
+take-reset-spec =
+    tie.close
+    (tie.spec
+    cast-configuration
+    element-copy-out-configuration
+    cast-sleep
+    element-copy-out-sleep
+    cast-next
+    element-write-next
+    cast-next-2
+    element-write-next-2
+    returns)

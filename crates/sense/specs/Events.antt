@@ -1,0 +1,76 @@
+-- Document 01, "Events": T, V, F, H, A and X on the chip. Zones, channels, fans and inputs count from 0; one that is not there changes
+-- nothing. Assumes nothing.
+use mathlib.Core.Bool.{Bool, not}
+use mathlib.Core.List.{List}
+use Prim.Native.Nat.{ℕ, _-_, _%_}
+use lib.Bits.{bitAnd, bitOr}
+use lib.Dec.{eqb, ltb}
+use lib.ListN.{getD, set}
+use Rattle.laws.specs.Pick.{pick, both, either}
+use Rattle.map.specs.Bits.{isSet}
+use Rattle.map.specs.Names.{TEMPERATURE-SOURCE-SELECT, CONFIGURATION, SLEEP-STATE-CONTROL, INT-AD11, EXT-AD15, INT-WR-E, LOCK, GMSK, S4-5}
+use Rattle.temperature.specs.declared.Reading.{Reading}
+use Rattle.temperature.specs.declared.Reading.the-variants as reading
+use Rattle.temperature.specs.Temperature.{countReading}
+use Rattle.state.specs.declared.Chip.{Chip}
+use Rattle.state.specs.declared.Count.{Count}
+use Rattle.state.specs.declared.Count.the-variants.{Taken, Missing}
+use Rattle.state.specs.Parts.{registerAt}
+use Rattle.state.specs.With.{withRegisters, withPin, withZone, withVolt, withFan, withHotInput}
+use Rattle.sense.specs.Errors.{comparedVolt, comparedFan}
+
+-- ---- T
+
+-- "T for zone 3 changes nothing while INT_AD11 or INT_WR_E is set."
+unfoldable pub zoneThreeFed : ℕ → Bool
+zoneThreeFed source = either (isSet source INT-AD11) (isSet source INT-WR-E)
+
+-- "T, zone 1 to 5 (1a, 1b, 2a, 2b, zone 3)"; "Zone 4 has no T event."
+unfoldable pub tookTemperature : Chip → ℕ → Reading → Chip
+tookTemperature c zone r =
+    pick (ltb zone 4) (withZone c zone r)
+    (pick (eqb zone 4) (pick (zoneThreeFed (registerAt c TEMPERATURE-SOURCE-SELECT)) c (withZone c zone r)) c)
+
+-- ---- V
+
+-- "A count of 0, or a missing one, makes that zone missing."
+unfoldable pub voltReading : Count → Reading
+voltReading Missing = reading.Missing
+voltReading (Taken n) = countReading (n % 256)
+
+-- "A V event for channel 11 with INT_AD11 set and INT_WR_E clear also sets zone 3"
+unfoldable pub feedsThree : ℕ → ℕ → Bool
+feedsThree source channel = both (eqb channel 10) (both (not (isSet source INT-WR-E)) (isSet source INT-AD11))
+
+-- "channel 15 does so for zone 4 if EXT_AD15 is set"
+unfoldable pub feedsFour : ℕ → ℕ → Bool
+feedsFour source channel = both (eqb channel 14) (isSet source EXT-AD15)
+
+unfoldable pub fedZone : Chip → ℕ → Count → Chip
+fedZone c channel n =
+    pick (feedsThree (registerAt c TEMPERATURE-SOURCE-SELECT) channel) (withZone c 4 (voltReading n))
+    (pick (feedsFour (registerAt c TEMPERATURE-SOURCE-SELECT) channel) (withZone c 5 (voltReading n)) c)
+
+unfoldable pub tookVoltage : Chip → ℕ → Count → Chip
+tookVoltage c channel n =
+    pick (ltb channel 16) (fedZone (withRegisters (withVolt c channel n) (comparedVolt (c .registers) channel n)) channel n) c
+
+-- ---- F, H, A, X
+
+unfoldable pub tookFan : Chip → ℕ → Count → Chip
+tookFan c fan n = pick (ltb fan 4) (withRegisters (withFan c fan n) (comparedFan (c .registers) fan n)) c
+
+unfoldable pub tookHot : Chip → ℕ → Bool → Chip
+tookHot c input hot = withHotInput c input hot
+
+-- "the address pin's new level"
+unfoldable pub tookPin : Chip → ℕ → Chip
+tookPin c level = withPin c (record { level = level; latch = c .pin .latch })
+
+-- "X clears LOCK, sets GMSK, sets the sleep state to S4/S5 (001's reset table), and nothing else."
+unfoldable pub resetFile : List ℕ → List ℕ
+resetFile file =
+    set (set file CONFIGURATION (bitOr (bitAnd (getD file CONFIGURATION 0) (255 - LOCK)) GMSK)) SLEEP-STATE-CONTROL (bitOr (getD file SLEEP-STATE-CONTROL 0) S4-5)
+
+unfoldable pub tookReset : Chip → Chip
+tookReset c = withRegisters c (resetFile (c .registers))

@@ -1,0 +1,10 @@
+pub mod Errors
+pub mod Missing
+pub mod Standing
+pub mod Ones
+pub mod IsSet
+pub mod Marks
+pub mod Alerts
+pub mod Keeps
+pub mod Events
+pub mod Cases

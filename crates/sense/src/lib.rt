@@ -1,0 +1,354 @@
+// How readings come in, and the errors they raise (document 01, "Events" and "Errors and ALERT").
+ghost use mathlib.Core.Path.{_≡_};
+ghost use Prim.Native.Nat.{_+_, _<_, _^_};
+ghost use Rattle.sense.specs.Errors.{withBit, markedVolt, markedFan, isOutside, fanLimit, comparedVolt, comparedFan};
+ghost use Rattle.sense.specs.Missing.{voltWatched, fanWatched, missedVolt, missedFan, missedVolts, missedFans, missed};
+ghost use Rattle.sense.specs.Standing.{bitsOf, errorsStanding, alertActive};
+ghost use Rattle.sense.specs.Events.{zoneThreeFed, tookTemperature, voltReading, feedsThree, feedsFour, fedZone, tookVoltage, tookFan, tookHot, tookPin, tookReset};
+use map::bits;
+use map::registers;
+use state::Chip;
+use state::Count;
+use state::Gauge;
+use state::Pin;
+use temperature::Reading;
+
+// A fan limit, or a fan count, that nothing exceeds.
+const FAN_TOP: u16 = 0x3FFF;
+
+// ---- error bits
+
+// The bit of a place below 8.
+fn bit_at(place: u8) -> u8
+    requires { ⌜ place < 8 ⌝ }
+    ensures { λ r. ⌜ r ≡ 2 ^ place ⌝ }
+{
+    1u8 << place
+}
+
+// A bit of a register is set.
+fn set_bit(file: &mut [u8; 256], address: u8, bit: u8)
+    ensures { λ _. ⌜ now (file .exit) ≡ withBit (now (file .entry)) address bit ⌝ }
+{
+    let at = address as usize;
+    file[at] = file[at] | bit;
+}
+
+// The error bit of a voltage, in the BMC and the Host group. Channels count from 0.
+fn mark_volt(file: &mut [u8; 256], channel: u8)
+    requires { ⌜ channel < 16 ⌝ }
+    ensures { λ _. ⌜ now (file .exit) ≡ markedVolt (now (file .entry)) channel ⌝ }
+{
+    let bit = bit_at(channel % 8);
+    set_bit(file, registers::B_ERROR_STATUS_2 + channel / 8, bit);
+    set_bit(file, registers::H_ERROR_STATUS_2 + channel / 8, bit);
+}
+
+// The error bit of a fan, in the BMC and the Host group. Fans count from 0.
+fn mark_fan(file: &mut [u8; 256], fan: u8)
+    requires { ⌜ fan < 4 ⌝ }
+    ensures { λ _. ⌜ now (file .exit) ≡ markedFan (now (file .entry)) fan ⌝ }
+{
+    let bit = bit_at(fan);
+    set_bit(file, registers::B_FAN_ERROR_STATUS, bit);
+    set_bit(file, registers::H_FAN_ERROR_STATUS, bit);
+}
+
+fn is_outside(low: u8, high: u8, count: u16) -> bool
+    ensures { λ r. ⌜ r ≡ isOutside low high count ⌝ }
+{
+    if count < low as u16 {
+        return true;
+    }
+    (high as u16) < count
+}
+
+// A fan's limit: six bits in the low byte's top, eight in the high byte.
+fn fan_limit(low: u8, high: u8) -> u16
+    ensures { λ r. ⌜ r ≡ fanLimit low high ⌝ }
+{
+    (low / 4) as u16 + high as u16 * 64
+}
+
+// A voltage reading is compared with its limits.
+fn compare_volt(file: &mut [u8; 256], channel: u8, count: Count)
+    requires { ⌜ channel < 16 ⌝ }
+    ensures { λ _. ⌜ now (file .exit) ≡ comparedVolt (now (file .entry)) channel count ⌝ }
+{
+    let Count::Taken(n) = count else {
+        return;
+    };
+    let at = registers::AD_IN1_LOW_LIMIT as usize + 2 * (channel as usize);
+    let low = file[at];
+    let high = file[at + 1];
+    if is_outside(low, high, n) {
+        mark_volt(file, channel);
+    }
+}
+
+// A fan count is compared with its limit.
+fn compare_fan(file: &mut [u8; 256], fan: u8, count: Count)
+    requires { ⌜ fan < 4 ⌝ }
+    ensures { λ _. ⌜ now (file .exit) ≡ comparedFan (now (file .entry)) fan count ⌝ }
+{
+    let Count::Taken(n) = count else {
+        return;
+    };
+    let at = registers::FAN_TACH_1_LIMIT_LSB as usize + 2 * (fan as usize);
+    let low = file[at];
+    let high = file[at + 1];
+    if fan_limit(low, high) < n {
+        mark_fan(file, fan);
+    }
+}
+
+// ---- the missing marks of a tick
+
+fn volt_watched(low: u8, high: u8) -> bool
+    ensures { λ r. ⌜ r ≡ voltWatched low high ⌝ }
+{
+    if low == 0 {
+        return high != 0xFF;
+    }
+    true
+}
+
+fn fan_watched(limit: u16) -> bool
+    ensures { λ r. ⌜ r ≡ fanWatched limit ⌝ }
+{
+    limit != FAN_TOP
+}
+
+// A voltage that is watched and missing sets its bit.
+fn miss_volt(file: &mut [u8; 256], channel: u8, count: Count)
+    requires { ⌜ channel < 16 ⌝ }
+    ensures { λ _. ⌜ now (file .exit) ≡ missedVolt (now (file .entry)) channel count ⌝ }
+{
+    let Count::Missing = count else {
+        return;
+    };
+    let at = registers::AD_IN1_LOW_LIMIT as usize + 2 * (channel as usize);
+    let low = file[at];
+    let high = file[at + 1];
+    if volt_watched(low, high) {
+        mark_volt(file, channel);
+    }
+}
+
+// A fan that is watched and missing sets its bit.
+fn miss_fan(file: &mut [u8; 256], fan: u8, count: Count)
+    requires { ⌜ fan < 4 ⌝ }
+    ensures { λ _. ⌜ now (file .exit) ≡ missedFan (now (file .entry)) fan count ⌝ }
+{
+    let Count::Missing = count else {
+        return;
+    };
+    let at = registers::FAN_TACH_1_LIMIT_LSB as usize + 2 * (fan as usize);
+    let low = file[at];
+    let high = file[at + 1];
+    if fan_watched(fan_limit(low, high)) {
+        mark_fan(file, fan);
+    }
+}
+
+fn miss_volts(file: &mut [u8; 256], volts: [Gauge; 16])
+    ensures { λ _. ⌜ now (file .exit) ≡ missedVolts (now (file .entry)) volts 16 ⌝ }
+{
+    let mut i: u8 = 0;
+    while i < 16 {
+        let gauge = volts[i as usize];
+        let count = gauge.count;
+        miss_volt(file, i, count);
+        i += 1;
+    }
+}
+
+fn miss_fans(file: &mut [u8; 256], fans: [Gauge; 4])
+    ensures { λ _. ⌜ now (file .exit) ≡ missedFans (now (file .entry)) fans 4 ⌝ }
+{
+    let mut i: u8 = 0;
+    while i < 4 {
+        let gauge = fans[i as usize];
+        let count = gauge.count;
+        miss_fan(file, i, count);
+        i += 1;
+    }
+}
+
+// At a tick every watched reading that is still missing sets its bit.
+pub fn mark_missing(chip: Chip) -> Chip
+    ensures { λ r. ⌜ r ≡ missed chip ⌝ }
+{
+    let volts = chip.volts;
+    let fans = chip.fans;
+    let mut next = chip;
+    miss_volts(&mut next.registers, volts);
+    miss_fans(&mut next.registers, fans);
+    next
+}
+
+// ---- errors standing, and ALERT
+
+// How many ones stand in two bytes and the low half of a third.
+fn ones_in(first: u8, second: u8, fans: u8) -> u32
+    ensures { λ r. ⌜ r ≡ bitsOf 8 first + bitsOf 8 second + bitsOf 4 fans ⌝ }
+{
+    u32::count_ones((((fans % 16) as u32) * 256 + second as u32) * 256 + first as u32)
+}
+
+// The number of voltage and fan errors that stand in the BMC group, 0 to 20.
+pub fn errors_standing(file: &[u8; 256]) -> u32
+    ensures { λ r. ⌜ r ≡ errorsStanding (now (file .entry)) ⌝ }
+{
+    ones_in(
+        file[registers::B_ERROR_STATUS_2 as usize],
+        file[registers::B_ERROR_STATUS_3 as usize],
+        file[registers::B_FAN_ERROR_STATUS as usize],
+    )
+}
+
+// Whether ALERT is active.
+pub fn alert_active(file: &[u8; 256]) -> bool
+    ensures { λ r. ⌜ r ≡ alertActive (now (file .entry)) ⌝ }
+{
+    if map::is_set(file[registers::CONFIGURATION as usize], bits::GMSK) {
+        return false;
+    }
+    0 < errors_standing(file)
+}
+
+// ---- events
+
+// Whether zone 3 takes its reading from elsewhere than T, by 31h.
+fn zone_three_fed(source: u8) -> bool
+    ensures { λ r. ⌜ r ≡ zoneThreeFed source ⌝ }
+{
+    if map::is_set(source, bits::INT_AD11) {
+        return true;
+    }
+    map::is_set(source, bits::INT_WR_E)
+}
+
+// T: a temperature. Zones count from 0 in the order 1a, 1b, 2a, 2b, 3; the sixth has no T.
+pub fn take_temperature(chip: Chip, zone: u8, reading: Reading) -> Chip
+    ensures { λ r. ⌜ r ≡ tookTemperature chip zone reading ⌝ }
+{
+    if zone < 4 {
+        return state::with_zone(chip, zone, reading);
+    }
+    if zone == 4 {
+        if zone_three_fed(chip.registers[registers::TEMPERATURE_SOURCE_SELECT as usize]) {
+            return chip;
+        }
+        return state::with_zone(chip, zone, reading);
+    }
+    chip
+}
+
+// The temperature that a voltage count stands for.
+fn volt_reading(count: Count) -> Reading
+    ensures { λ r. ⌜ r ≡ voltReading count ⌝ }
+{
+    let Count::Taken(n) = count else {
+        return Reading::Missing;
+    };
+    temperature::from_count((n % 256) as u8)
+}
+
+// Channel 11 can set zone 3, and channel 15 zone 4, by 31h.
+fn feed_zone(chip: Chip, channel: u8, count: Count) -> Chip
+    ensures { λ r. ⌜ r ≡ fedZone chip channel count ⌝ }
+{
+    let source = chip.registers[registers::TEMPERATURE_SOURCE_SELECT as usize];
+    if feeds_three(source, channel) {
+        return state::with_zone(chip, 4, volt_reading(count));
+    }
+    if feeds_four(source, channel) {
+        return state::with_zone(chip, 5, volt_reading(count));
+    }
+    chip
+}
+
+fn feeds_three(source: u8, channel: u8) -> bool
+    ensures { λ r. ⌜ r ≡ feedsThree source channel ⌝ }
+{
+    if channel == 10 {
+        if map::is_set(source, bits::INT_WR_E) {
+            return false;
+        }
+        return map::is_set(source, bits::INT_AD11);
+    }
+    false
+}
+
+fn feeds_four(source: u8, channel: u8) -> bool
+    ensures { λ r. ⌜ r ≡ feedsFour source channel ⌝ }
+{
+    if channel == 14 {
+        return map::is_set(source, bits::EXT_AD15);
+    }
+    false
+}
+
+// V: a voltage. Channels count from 0; there are sixteen.
+pub fn take_voltage(chip: Chip, channel: u8, count: Count) -> Chip
+    ensures { λ r. ⌜ r ≡ tookVoltage chip channel count ⌝ }
+{
+    if channel < 16 {
+        let mut next = state::with_volt(chip, channel, count);
+        compare_volt(&mut next.registers, channel, count);
+        return feed_zone(next, channel, count);
+    }
+    chip
+}
+
+// F: a fan count. Fans count from 0; there are four.
+pub fn take_fan(chip: Chip, fan: u8, count: Count) -> Chip
+    ensures { λ r. ⌜ r ≡ tookFan chip fan count ⌝ }
+{
+    if fan < 4 {
+        let mut next = state::with_fan(chip, fan, count);
+        compare_fan(&mut next.registers, fan, count);
+        return next;
+    }
+    chip
+}
+
+// H: a hot input. Inputs count from 0; there are four.
+pub fn take_hot(chip: Chip, input: u8, hot: bool) -> Chip
+    ensures { λ r. ⌜ r ≡ tookHot chip input hot ⌝ }
+{
+    let at = input as usize;
+    let mut next = chip;
+    if at < 4 {
+        next.hot[at] = hot;
+    }
+    next
+}
+
+// A: the address pin's new level.
+pub fn take_pin(chip: Chip, level: u8) -> Chip
+    ensures { λ r. ⌜ r ≡ tookPin chip level ⌝ }
+{
+    let old = chip.pin;
+    let latch = old.latch;
+    let pin = Pin {
+        level: level,
+        latch: latch,
+    };
+    let mut next = chip;
+    next.pin = pin;
+    next
+}
+
+// X: the reset pin. It clears LOCK, sets GMSK and the sleep state S4/S5, and nothing else.
+pub fn take_reset(chip: Chip) -> Chip
+    ensures { λ r. ⌜ r ≡ tookReset chip ⌝ }
+{
+    let configuration = chip.registers[registers::CONFIGURATION as usize];
+    let sleep = chip.registers[registers::SLEEP_STATE_CONTROL as usize];
+    let mut next = chip;
+    next.registers[registers::CONFIGURATION as usize] = (configuration & !bits::LOCK) | bits::GMSK;
+    next.registers[registers::SLEEP_STATE_CONTROL as usize] = sleep | bits::S4_5;
+    next
+}

@@ -1,0 +1,28 @@
+use mathlib.Core.Path.{_≡_}
+use Prim.Native.Nat.{_≤_}
+use native.Mathlib.Omega.{arith}
+use lib.ListN.{length, List·getD-eq-default}
+use Rattle.state.specs.Parts.{noGauge}
+use Rattle.state.proofs.Lengths.{unmapped}
+use borrow.Author.Needs.{needs}
+use Rattle.state.proofs.volt_at.Statement.{statement}
+use Rattle.state.proofs.volt_at.Tie as tie
+
+mul-gauge : tie.Need-mul-gauge
+mul-gauge c = search needs
+
+array-copy-out-gauge : tie.Need-array-copy-out-gauge
+array-copy-out-gauge c = search needs
+
+returns : tie.Need-returns
+returns c = search needs
+
+returns-2 : tie.Need-returns-2
+returns-2 c =
+    let l = c .before .args .t1 in
+    let n : length l ≡ 16 = search (needs, unmapped) in
+    let past : length l ≤ c .before .args .channel = omega arith in
+    rw (List·getD-eq-default l noGauge past)
+
+pub volt-at-spec : {M : Type 1} → statement M
+volt-at-spec = tie.close (tie.spec mul-gauge array-copy-out-gauge returns returns-2)

@@ -1,0 +1,11 @@
+pub mod Fields
+pub mod Number
+pub mod Hex
+pub mod Answers
+pub mod Cases
+pub mod Walk
+pub mod Run
+pub mod Saturated
+pub mod Spelling
+pub mod Decimal
+pub mod Written
