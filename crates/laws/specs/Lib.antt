@@ -13,3 +13,4 @@ pub mod Masks
 pub mod Shift
 pub mod Bits
 pub mod Left
+pub mod TabEach

@@ -1,0 +1,132 @@
+-- Document 01, "Events", with the refusal of "Lines and refusals" for numbers out of range: one event, by cases. Assumes nothing.
+use mathlib.Core.Bool.{Bool, true, false}
+use Prim.Native.Nat.{ℕ, _-_, _%_}
+use lib.Dec.{eqb, leb, ltb}
+use lib.IntN.{pos, negsuc}
+use lib.ListN.{getD}
+use lib.Signed.{leZ}
+use Rattle.laws.specs.Pick.{pick, both}
+use Rattle.temperature.specs.declared.Reading.{Reading}
+use Rattle.temperature.specs.declared.Reading.the-variants as reading
+use Rattle.state.specs.declared.Chip.{Chip}
+use Rattle.state.specs.declared.Count.{Count}
+use Rattle.state.specs.declared.Count.the-variants.{Taken, Missing}
+use Rattle.sense.specs.Missing.{missed}
+use Rattle.sense.specs.Standing.{errorsStanding, alertActive}
+use Rattle.sense.specs.Events.{tookTemperature, tookVoltage, tookFan, tookHot, tookPin, tookReset}
+use Rattle.bus.specs.declared.Shown.{Shown}
+use Rattle.bus.specs.declared.Shown.the-variants as shown
+use Rattle.bus.specs.declared.Written.{Written}
+use Rattle.bus.specs.declared.Seen.{Seen}
+use Rattle.bus.specs.Write.{wroteByte}
+use Rattle.bus.specs.Read.{readByte}
+use Rattle.drive.specs.declared.Ticked.{Ticked}
+use Rattle.drive.specs.Tick.{tickedChip}
+use Rattle.event.specs.declared.Event.{Event}
+use Rattle.event.specs.declared.Event.the-variants.{Temperature, Voltage, Fan, Hot, Pin, Tick, Reset, Write, Read}
+use Rattle.event.specs.declared.Answer.{Answer}
+use Rattle.event.specs.declared.Answer.the-variants.{Nothing, Refused, Acknowledged, Byte, NoByte, Ticked as TickedBy}
+use Rattle.event.specs.declared.Stepped.{Stepped}
+
+-- ---- ranges
+
+-- "zone 1 to 5", "channel 1 to 16", "fan 1 to 4", "input 1 to 4"
+unfoldable pub indexIn : ℕ → ℕ → Bool
+indexIn most n = both (leb 1 n) (leb n most)
+
+-- "a signed count of half degrees, -254 to 255, or missing"
+unfoldable pub readingIn : Reading → Bool
+readingIn reading.Missing = true
+readingIn (reading.Taken h) = both (leZ (negsuc 253) h) (leZ h (pos 255))
+
+-- "0 to 255, or missing", "0 to 16383, or missing"
+unfoldable pub countIn : ℕ → Count → Bool
+countIn most Missing = true
+countIn most (Taken n) = leb n most
+
+-- "0 or 1, never missing", "0 to 2, never missing"
+unfoldable pub levelIn : ℕ → Count → Bool
+levelIn most Missing = false
+levelIn most (Taken n) = leb n most
+
+-- a level in range is below 256
+unfoldable pub levelOf : Count → ℕ
+levelOf Missing = 0
+levelOf (Taken n) = n % 256
+
+-- ---- what an event leaves and answers
+
+-- "The rest print nothing."
+unfoldable pub quietStep : Chip → Stepped
+quietStep c = record { chip = c; answer = Nothing }
+
+-- refusal 2: "an event number out of range, "-" in H or A, address above 7Fh"; "chip and buffers stay"
+unfoldable pub refusedStep : Chip → Stepped
+refusedStep c = record { chip = c; answer = Refused 2 }
+
+-- ---- each event
+
+unfoldable pub temperatureStep : Chip → ℕ → Reading → Stepped
+temperatureStep c zone r = pick (both (indexIn 5 zone) (readingIn r)) (quietStep (tookTemperature c (zone - 1) r)) (refusedStep c)
+
+unfoldable pub voltageStep : Chip → ℕ → Count → Stepped
+voltageStep c channel n = pick (both (indexIn 16 channel) (countIn 255 n)) (quietStep (tookVoltage c (channel - 1) n)) (refusedStep c)
+
+unfoldable pub fanStep : Chip → ℕ → Count → Stepped
+fanStep c fan n = pick (both (indexIn 4 fan) (countIn 16383 n)) (quietStep (tookFan c (fan - 1) n)) (refusedStep c)
+
+unfoldable pub hotStep : Chip → ℕ → Count → Stepped
+hotStep c input level =
+    pick (both (indexIn 4 input) (levelIn 1 level)) (quietStep (tookHot c (input - 1) (eqb (levelOf level) 1))) (refusedStep c)
+
+unfoldable pub pinStep : Chip → Count → Stepped
+pinStep c level = pick (levelIn 2 level) (quietStep (tookPin c (levelOf level))) (refusedStep c)
+
+-- "K prints alert, duty 1, duty 2, output 1, output 2, errors"
+unfoldable pub tickAnswer : Ticked → Stepped
+tickAnswer t = record {
+  chip = t .chip;
+  answer = TickedBy (record {
+    alert = alertActive (t .chip .registers);
+    duty1 = getD (t .chip .drive .duties) 0 0;
+    duty2 = getD (t .chip .drive .duties) 1 0;
+    output1 = getD (t .outputs) 0 0;
+    output2 = getD (t .outputs) 1 0;
+    errors = errorsStanding (t .chip .registers);
+  });
+}
+
+-- the missing marks, then the fans
+unfoldable pub tickStep : Chip → Stepped
+tickStep c = tickAnswer (tickedChip (missed c))
+
+-- "W prints ack (1 or 0)"
+unfoldable pub writtenAnswer : Written → Stepped
+writtenAnswer w = record { chip = w .chip; answer = Acknowledged (w .ack) }
+
+unfoldable pub writeStep : Chip → ℕ → ℕ → ℕ → Stepped
+writeStep c address a byte = pick (ltb 0x7F address) (refusedStep c) (writtenAnswer (wroteByte c address a byte))
+
+-- "R prints ack and the byte, or `--`"
+unfoldable pub seenAnswer : Shown → Answer
+seenAnswer shown.NoByte = NoByte
+seenAnswer (shown.Byte b) = Byte b
+
+unfoldable pub readAnswer : Seen → Stepped
+readAnswer s = record { chip = s .chip; answer = seenAnswer (s .shown) }
+
+unfoldable pub readStep : Chip → ℕ → ℕ → Stepped
+readStep c address a = pick (ltb 0x7F address) (refusedStep c) (readAnswer (readByte c address a))
+
+-- ---- one event
+
+unfoldable pub steppedChip : Chip → Event → Stepped
+steppedChip c (Temperature zone r) = temperatureStep c zone r
+steppedChip c (Voltage channel n) = voltageStep c channel n
+steppedChip c (Fan fan n) = fanStep c fan n
+steppedChip c (Hot input level) = hotStep c input level
+steppedChip c (Pin level) = pinStep c level
+steppedChip c Tick = tickStep c
+steppedChip c Reset = quietStep (tookReset c)
+steppedChip c (Write address a byte) = writeStep c address a byte
+steppedChip c (Read address a) = readStep c address a

@@ -1,0 +1,83 @@
+-- What a tick changes and answers. Assumes nothing.
+use mathlib.Core.Path.{_≡_, refl}
+use mathlib.Core.List.{List}
+use Prim.Native.Nat.{ℕ, _≤_}
+use native.Mathlib.Omega.{arith}
+use lib.ListN.{getD}
+use Rattle.map.specs.Names.{B-ERROR-STATUS-2, B-ERROR-STATUS-3, B-FAN-ERROR-STATUS}
+use Rattle.state.specs.declared.Chip.{Chip}
+use Rattle.state.specs.Valid.{Valid}
+use Rattle.sense.specs.Missing.{missed}
+use Rattle.sense.specs.Standing.{errorsStanding, alertActive}
+use Rattle.sense.specs.Ones.{bits-le}
+use Rattle.drive.specs.Tick.{dutyOf, driveAfter, outputsAfter, tickedChip}
+use Rattle.drive.specs.Range.{InRange, duty-of-le, outputs-le}
+use Rattle.drive.specs.TickOrder.{SameButDrive, tick-keeps}
+use Rattle.event.specs.declared.Event.the-variants.{Tick}
+use Rattle.event.specs.declared.Tick.{Tick as Shown}
+use Rattle.event.specs.declared.Answer.the-variants.{Ticked}
+use Rattle.event.specs.Event.{tickAnswer, tickStep, steppedChip}
+use Rattle.event.specs.Alike.{missed-alike}
+
+-- what a tick shows is in range
+pub record ShownRange (t : Shown) : Type 0 where
+  pub duty1 : t .duty1 ≤ 256
+  pub duty2 : t .duty2 ≤ 256
+  pub output1 : t .output1 ≤ 256
+  pub output2 : t .output2 ≤ 256
+  pub errors : t .errors ≤ 20
+
+-- "the number of ones in those bits, 0 to 20"
+pub standing-le : (file : List ℕ) → errorsStanding file ≤ 20
+unfolding errorsStanding
+standing-le file =
+    omega (arith, bits-le 8 (getD file B-ERROR-STATUS-2 0), bits-le 8 (getD file B-ERROR-STATUS-3 0), bits-le 4 (getD file B-FAN-ERROR-STATUS 0))
+
+module _ (c : Chip) where
+  -- the missing marks, then the fans
+  pub tick-chip : steppedChip c Tick .chip ≡ tickedChip (missed c) .chip
+  unfolding steppedChip tickStep tickAnswer
+  tick-chip = refl
+
+  -- a tick sets the missing marks, then changes nothing but the drive
+  pub tick-leaves : SameButDrive (steppedChip c Tick .chip) (missed c)
+  tick-leaves = rw tick-chip (tick-keeps (missed c))
+
+  -- what a tick shows: ALERT and the errors of the chip that it leaves, its two duties, and their outputs
+  unfoldable pub tickShown : Shown
+  tickShown = record {
+    alert = alertActive (steppedChip c Tick .chip .registers);
+    duty1 = dutyOf (missed c) 0;
+    duty2 = dutyOf (missed c) 1;
+    output1 = getD (outputsAfter (missed c)) 0 0;
+    output2 = getD (outputsAfter (missed c)) 1 0;
+    errors = errorsStanding (steppedChip c Tick .chip .registers);
+  }
+
+  -- a tick's answer speaks of the chip that it leaves
+  pub tick-answers : steppedChip c Tick .answer ≡ Ticked tickShown
+  unfolding steppedChip tickStep tickAnswer tickedChip driveAfter tickShown
+  tick-answers = refl
+
+  -- a tick shows duties and outputs of 0 to 256, and 0 to 20 errors
+  pub shown-range : Valid (c .setup) → InRange (c .drive) → ShownRange tickShown
+  unfolding tickShown
+  shown-range v r = record {
+    duty1 = duty 0;
+    duty2 = duty 1;
+    output1 = output 0;
+    output2 = output 1;
+    errors = standing-le (steppedChip c Tick .chip .registers);
+  }
+    where
+      valid : Valid (missed c .setup)
+      valid = rw (missed-alike c .setup) v
+
+      within : InRange (missed c .drive)
+      within = rw (missed-alike c .drive) r
+
+      duty : (fan : ℕ) → dutyOf (missed c) fan ≤ 256
+      duty = duty-of-le (missed c) (within .levels) valid
+
+      output : (fan : ℕ) → getD (outputsAfter (missed c)) fan 0 ≤ 256
+      output = outputs-le (missed c) valid within

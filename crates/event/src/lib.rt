@@ -1,0 +1,276 @@
+// The events of the chip: each is taken, or refused by its number (document 01, "Events" and "Lines and refusals").
+ghost use mathlib.Core.Path.{_≡_};
+ghost use Rattle.event.specs.Event.{indexIn, readingIn, countIn, levelIn, levelOf, seenAnswer, quietStep, refusedStep, temperatureStep, voltageStep, fanStep, hotStep, pinStep, tickStep, writeStep, readStep, steppedChip};
+use bus::Shown;
+use state::Chip;
+use state::Count;
+use temperature::Reading;
+
+// An event, with the numbers as they came in.
+pub enum Event {
+    // T: zone 1 to 5, and its reading.
+    Temperature { zone: u8, reading: Reading },
+    // V: channel 1 to 16, and its count.
+    Voltage { channel: u8, count: Count },
+    // F: fan 1 to 4, and its count.
+    Fan { fan: u8, count: Count },
+    // H: input 1 to 4, 0 or 1.
+    Hot { input: u8, level: Count },
+    // A: the address pin's level, 0 to 2.
+    Pin { level: Count },
+    // K: 50 ms.
+    Tick,
+    // X: the reset pin.
+    Reset,
+    // W and R: bus transactions.
+    Write { address: u8, register: u8, byte: u8 },
+    Read { address: u8, register: u8 },
+}
+
+// What a tick shows.
+pub struct Tick {
+    pub alert: bool,
+    pub duty1: u16,
+    pub duty2: u16,
+    pub output1: u16,
+    pub output2: u16,
+    pub errors: u32,
+}
+
+// What an event answers.
+pub enum Answer {
+    Nothing,
+    // The refusal's number.
+    Refused(u8),
+    // Of W: whether it was acknowledged.
+    Acknowledged(bool),
+    // Of R: the byte, or none where it was not acknowledged.
+    Byte(u8),
+    NoByte,
+    // Of K.
+    Ticked(Tick),
+}
+
+// The chip after an event, and the event's answer.
+pub struct Stepped {
+    pub chip: Chip,
+    pub answer: Answer,
+}
+
+// The refusal of an event number out of range.
+const OUT_OF_RANGE: u8 = 2;
+
+// The largest of 127 slave addresses.
+const ADDRESS_TOP: u8 = 0x7F;
+
+// ---- ranges
+
+// A number from 1 to most.
+fn index_in(most: u8, n: u8) -> bool
+    ensures { λ r. ⌜ r ≡ indexIn most n ⌝ }
+{
+    if 1 <= n {
+        return n <= most;
+    }
+    false
+}
+
+fn reading_in(reading: Reading) -> bool
+    ensures { λ r. ⌜ r ≡ readingIn reading ⌝ }
+{
+    let Reading::Taken(h) = reading else {
+        return true;
+    };
+    if -254 <= h {
+        return h <= 255;
+    }
+    false
+}
+
+// A count up to most, or missing.
+fn count_in(most: u16, count: Count) -> bool
+    ensures { λ r. ⌜ r ≡ countIn most count ⌝ }
+{
+    let Count::Taken(n) = count else {
+        return true;
+    };
+    n <= most
+}
+
+// A level up to most, never missing.
+fn level_in(most: u16, level: Count) -> bool
+    ensures { λ r. ⌜ r ≡ levelIn most level ⌝ }
+{
+    let Count::Taken(n) = level else {
+        return false;
+    };
+    n <= most
+}
+
+// ---- answers
+
+fn quiet(chip: Chip) -> Stepped
+    ensures { λ r. ⌜ r ≡ quietStep chip ⌝ }
+{
+    Stepped {
+        chip: chip,
+        answer: Answer::Nothing,
+    }
+}
+
+fn refuse(chip: Chip) -> Stepped
+    ensures { λ r. ⌜ r ≡ refusedStep chip ⌝ }
+{
+    Stepped {
+        chip: chip,
+        answer: Answer::Refused(OUT_OF_RANGE),
+    }
+}
+
+// ---- the events
+
+fn step_temperature(chip: Chip, zone: u8, reading: Reading) -> Stepped
+    ensures { λ r. ⌜ r ≡ temperatureStep chip zone reading ⌝ }
+{
+    if index_in(5, zone) {
+        if reading_in(reading) {
+            return quiet(sense::take_temperature(chip, zone - 1, reading));
+        }
+    }
+    refuse(chip)
+}
+
+fn step_voltage(chip: Chip, channel: u8, count: Count) -> Stepped
+    ensures { λ r. ⌜ r ≡ voltageStep chip channel count ⌝ }
+{
+    if index_in(16, channel) {
+        if count_in(255, count) {
+            return quiet(sense::take_voltage(chip, channel - 1, count));
+        }
+    }
+    refuse(chip)
+}
+
+fn step_fan(chip: Chip, fan: u8, count: Count) -> Stepped
+    ensures { λ r. ⌜ r ≡ fanStep chip fan count ⌝ }
+{
+    if index_in(4, fan) {
+        if count_in(16383, count) {
+            return quiet(sense::take_fan(chip, fan - 1, count));
+        }
+    }
+    refuse(chip)
+}
+
+fn step_hot(chip: Chip, input: u8, level: Count) -> Stepped
+    ensures { λ r. ⌜ r ≡ hotStep chip input level ⌝ }
+{
+    if index_in(4, input) {
+        if level_in(1, level) {
+            return quiet(sense::take_hot(chip, input - 1, level_of(level) == 1));
+        }
+    }
+    refuse(chip)
+}
+
+// A level as a number; 0 where it is missing.
+fn level_of(level: Count) -> u8
+    ensures { λ r. ⌜ r ≡ levelOf level ⌝ }
+{
+    let Count::Taken(n) = level else {
+        return 0;
+    };
+    (n % 256) as u8
+}
+
+fn step_pin(chip: Chip, level: Count) -> Stepped
+    ensures { λ r. ⌜ r ≡ pinStep chip level ⌝ }
+{
+    if level_in(2, level) {
+        return quiet(sense::take_pin(chip, level_of(level)));
+    }
+    refuse(chip)
+}
+
+// The missing marks, then the fans, then what shows.
+fn step_tick(chip: Chip) -> Stepped
+    ensures { λ r. ⌜ r ≡ tickStep chip ⌝ }
+{
+    let ticked = drive::tick(sense::mark_missing(chip));
+    let next = ticked.chip;
+    let after = next.drive;
+    let duty1 = after.duties[0];
+    let duty2 = after.duties[1];
+    let output1 = ticked.outputs[0];
+    let output2 = ticked.outputs[1];
+    Stepped {
+        chip: next,
+        answer: Answer::Ticked(Tick {
+            alert: sense::alert_active(&next.registers),
+            duty1: duty1,
+            duty2: duty2,
+            output1: output1,
+            output2: output2,
+            errors: sense::errors_standing(&next.registers),
+        }),
+    }
+}
+
+fn step_write(chip: Chip, address: u8, register: u8, byte: u8) -> Stepped
+    ensures { λ r. ⌜ r ≡ writeStep chip address register byte ⌝ }
+{
+    if ADDRESS_TOP < address {
+        return refuse(chip);
+    }
+    let written = bus::write_byte(chip, address, register, byte);
+    let next = written.chip;
+    Stepped {
+        chip: next,
+        answer: Answer::Acknowledged(written.ack),
+    }
+}
+
+fn seen_answer(shown: Shown) -> Answer
+    ensures { λ r. ⌜ r ≡ seenAnswer shown ⌝ }
+{
+    match shown {
+        Shown::NoByte => Answer::NoByte,
+        Shown::Byte(byte) => Answer::Byte(byte),
+    }
+}
+
+fn step_read(chip: Chip, address: u8, register: u8) -> Stepped
+    ensures { λ r. ⌜ r ≡ readStep chip address register ⌝ }
+{
+    if ADDRESS_TOP < address {
+        return refuse(chip);
+    }
+    let seen = bus::read_byte(chip, address, register);
+    let next = seen.chip;
+    let shown = seen.shown;
+    Stepped {
+        chip: next,
+        answer: seen_answer(shown),
+    }
+}
+
+// One event: the chip after it and its answer. A refused event leaves the chip as it was.
+pub fn step(chip: Chip, event: Event) -> Stepped
+    ensures { λ r. ⌜ r ≡ steppedChip chip event ⌝ }
+{
+    match event {
+        Event::Temperature { zone, reading } => step_temperature(chip, zone, reading),
+        Event::Voltage { channel, count } => step_voltage(chip, channel, count),
+        Event::Fan { fan, count } => step_fan(chip, fan, count),
+        Event::Hot { input, level } => step_hot(chip, input, level),
+        Event::Pin { level } => step_pin(chip, level),
+        Event::Tick => step_tick(chip),
+        Event::Reset => quiet(sense::take_reset(chip)),
+        Event::Write {
+            address,
+            register,
+            byte,
+        } => step_write(chip, address, register, byte),
+        Event::Read { address, register } => step_read(chip, address, register),
+    }
+}

@@ -1,0 +1,2 @@
+-- What the proofs of a line cite.
+pub mod Settled

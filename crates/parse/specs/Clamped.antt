@@ -1,0 +1,96 @@
+-- What the code hands on: the same events, with numbers no larger than their types hold. No event can tell (law `clamped-step`).
+-- Assumes nothing.
+use Prim.Native.Nat.{ℕ, _-_, _<_, min}
+use mathlib.Core.Path.{_≡_, refl}
+use native.Mathlib.Omega.{arith}
+use lib.Dec.{eqb}
+use lib.IntN.{pos, negsuc}
+use Rattle.temperature.specs.declared.Reading.{Reading}
+use Rattle.temperature.specs.declared.Reading.the-variants as reading
+use Rattle.state.specs.declared.Chip.{Chip}
+use Rattle.state.specs.declared.Count.{Count}
+use Rattle.state.specs.declared.Count.the-variants as count
+use Rattle.event.specs.declared.Event.{Event}
+use Rattle.event.specs.declared.Event.the-variants.{Temperature, Voltage, Fan, Hot, Pin, Tick, Reset, Write, Read}
+use Rattle.sense.specs.Events.{tookTemperature, tookVoltage, tookFan, tookHot, tookPin}
+use Rattle.event.specs.Event.{indexIn, readingIn, countIn, levelIn, levelOf, quietStep, refusedStep, temperatureStep, voltageStep, fanStep, hotStep, pinStep, steppedChip}
+use Rattle.text.specs.Number.{saturated}
+use Rattle.parse.specs.declared.Parsed.{Parsed}
+use Rattle.parse.specs.declared.Parsed.the-variants.{Wrong, Fine}
+use Rattle.parse.specs.declared.Pair.{Pair}
+use Rattle.parse.specs.declared.Pair.the-variants as pair
+use Rattle.parse.specs.Unseen.{Unseen, same, held-unseen, within-unseen, both-false, one-unseen, both-unseen}
+
+unfoldable pub saturatedPair : Pair → Pair
+saturatedPair pair.Wrong = pair.Wrong
+saturatedPair (pair.Of i v) = pair.Of (saturated i) (saturated v)
+
+unfoldable pub clampedIndex : ℕ → ℕ
+clampedIndex n = min n 255
+
+unfoldable pub clampedReading : Reading → Reading
+clampedReading reading.Missing = reading.Missing
+clampedReading (reading.Taken (pos n)) = reading.Taken (pos (min n 32767))
+clampedReading (reading.Taken (negsuc n)) = reading.Taken (negsuc (min n 32766))
+
+unfoldable pub clampedCount : Count → Count
+clampedCount count.Missing = count.Missing
+clampedCount (count.Taken n) = count.Taken (min n 65535)
+
+unfoldable pub clampedEvent : Event → Event
+clampedEvent (Temperature zone r) = Temperature (clampedIndex zone) (clampedReading r)
+clampedEvent (Voltage channel n) = Voltage (clampedIndex channel) (clampedCount n)
+clampedEvent (Fan fan n) = Fan (clampedIndex fan) (clampedCount n)
+clampedEvent (Hot input level) = Hot (clampedIndex input) (clampedCount level)
+clampedEvent (Pin level) = Pin (clampedCount level)
+clampedEvent Tick = Tick
+clampedEvent Reset = Reset
+clampedEvent (Write address a byte) = Write address a byte
+clampedEvent (Read address a) = Read address a
+
+unfoldable pub clampedParsed : Parsed → Parsed
+clampedParsed Wrong = Wrong
+clampedParsed (Fine e) = Fine (clampedEvent e)
+
+-- ---- no range can tell
+
+index-unseen : (n most : ℕ) → most < 255 → Unseen (indexIn most) (clampedIndex n) n
+unfolding clampedIndex indexIn
+index-unseen n most h =
+    within-unseen (indexIn most) (λ (k : ℕ). k) (λ k e. rw (e, both-false)) (held-unseen n 255 most h)
+
+reading-unseen : (r : Reading) → Unseen readingIn (clampedReading r) r
+unfolding clampedReading readingIn
+reading-unseen reading.Missing = same refl
+reading-unseen (reading.Taken (pos n)) =
+    within-unseen readingIn (λ (k : ℕ). reading.Taken (pos k)) (λ k e. e) (held-unseen n 32767 255 (omega arith))
+reading-unseen (reading.Taken (negsuc n)) =
+    within-unseen readingIn (λ (k : ℕ). reading.Taken (negsuc k)) (λ k e. rw e) (held-unseen n 32766 253 (omega arith))
+
+count-unseen : (n : Count) (most : ℕ) → most < 65535 → Unseen (countIn most) (clampedCount n) n
+unfolding clampedCount countIn
+count-unseen count.Missing most h = same refl
+count-unseen (count.Taken n) most h = within-unseen (countIn most) count.Taken (λ k e. e) (held-unseen n 65535 most h)
+
+level-unseen : (n : Count) (most : ℕ) → most < 65535 → Unseen (levelIn most) (clampedCount n) n
+unfolding clampedCount levelIn
+level-unseen count.Missing most h = same refl
+level-unseen (count.Taken n) most h = within-unseen (levelIn most) count.Taken (λ k e. e) (held-unseen n 65535 most h)
+
+-- no event can tell: it is refused or taken alike, and leaves and answers the same
+pub clamped-step : (c : Chip) (e : Event) → steppedChip c (clampedEvent e) ≡ steppedChip c e
+unfolding clampedEvent steppedChip temperatureStep voltageStep fanStep hotStep pinStep
+clamped-step c (Temperature zone r) =
+    both-unseen (λ i x. quietStep (tookTemperature c (i - 1) x)) (refusedStep c) (index-unseen zone 5 (omega arith)) (reading-unseen r)
+clamped-step c (Voltage channel n) =
+    both-unseen (λ i x. quietStep (tookVoltage c (i - 1) x)) (refusedStep c) (index-unseen channel 16 (omega arith)) (count-unseen n 255 (omega arith))
+clamped-step c (Fan fan n) =
+    both-unseen (λ i x. quietStep (tookFan c (i - 1) x)) (refusedStep c) (index-unseen fan 4 (omega arith)) (count-unseen n 16383 (omega arith))
+clamped-step c (Hot input level) =
+    both-unseen (λ i x. quietStep (tookHot c (i - 1) (eqb (levelOf x) 1))) (refusedStep c) (index-unseen input 4 (omega arith)) (level-unseen level 1 (omega arith))
+clamped-step c (Pin level) =
+    one-unseen (λ x. quietStep (tookPin c (levelOf x))) (refusedStep c) (level-unseen level 2 (omega arith))
+clamped-step c Tick = refl
+clamped-step c Reset = refl
+clamped-step c (Write address a byte) = refl
+clamped-step c (Read address a) = refl

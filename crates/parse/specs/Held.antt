@@ -1,0 +1,126 @@
+-- The code reads a line from numbers held to 65535, and hands on what it would of the exact ones. Assumes nothing.
+use mathlib.Core.Path.{_≡_, refl, ap}
+use mathlib.Core.Bool.{Bool}
+use mathlib.Core.List.{List}
+use Prim.Native.Nat.{ℕ, zero, suc, min}
+use native.Mathlib.Omega.{arith}
+use lib.Dec.{eqb}
+use lib.IntN.{pos, negℤ}
+use lib.ListN.{length}
+use Rattle.laws.specs.Pointwise.{pick-each}
+use Rattle.temperature.specs.declared.Reading.the-variants.{Taken}
+use Rattle.bus.specs.Changes.{never}
+use Rattle.event.specs.declared.Event.{Event}
+use Rattle.text.specs.declared.Number.{Number}
+use Rattle.text.specs.declared.Number.the-variants as number
+use Rattle.text.specs.declared.Hex.{Hex}
+use Rattle.text.specs.declared.Hex.the-variants as hex
+use Rattle.text.specs.Fields.{fieldsOf, fieldAt}
+use Rattle.text.specs.Number.{isSpelt, saturated}
+use Rattle.text.specs.Hex.{hexByteOf}
+use Rattle.parse.specs.declared.Parsed.{Parsed}
+use Rattle.parse.specs.declared.Parsed.the-variants.{Fine}
+use Rattle.parse.specs.declared.Pair.{Pair}
+use Rattle.parse.specs.declared.Pair.the-variants.{Wrong, Of}
+use Rattle.parse.specs.Parse.{indexOf, readingOf, countOf, aloneLine, writeBy, writeLine, readBy, readLine}
+use Rattle.parse.specs.Clamped.{saturatedPair, clampedIndex, clampedReading, clampedCount, clampedEvent, clampedParsed}
+
+-- ---- numbers
+
+-- spelled right or not
+pub spelt-held : (n : Number) → isSpelt (saturated n) ≡ isSpelt n
+unfolding isSpelt saturated
+spelt-held number.Wrong = refl
+spelt-held number.Dash = refl
+spelt-held (number.Plus v) = refl
+spelt-held (number.Minus v) = refl
+
+-- as the code finds it: m is the number that it has, t what it says of m
+pub spelt-as : (n : Number) {m : Number} {t u : Bool} → m ≡ saturated n → t ≡ isSpelt m → t ≡ u → isSpelt n ≡ u
+spelt-as n p q r = cc (spelt-held n)
+
+pub index-held : (n : Number) → clampedIndex (indexOf (saturated n)) ≡ clampedIndex (indexOf n)
+unfolding clampedIndex indexOf saturated
+index-held number.Wrong = refl
+index-held number.Dash = refl
+index-held (number.Plus v) = omega arith
+index-held (number.Minus v) = refl
+
+pub count-held : (n : Number) → countOf (saturated n) ≡ clampedCount (countOf n)
+unfolding clampedCount countOf saturated
+count-held number.Wrong = refl
+count-held number.Dash = refl
+count-held (number.Plus v) = refl
+count-held (number.Minus v) = refl
+
+-- a reading below 0 is held to -32767, as one above to 32767
+pub clamped-minus : (v : ℕ) → clampedReading (Taken (negℤ (pos v))) ≡ Taken (negℤ (pos (min v 32767)))
+unfolding clampedReading
+clamped-minus zero = refl
+clamped-minus (suc v) = let e : min (suc v) 32767 ≡ suc (min v 32766) = omega arith in rw e
+
+min-min : (v : ℕ) → min (min v 65535) 32767 ≡ min v 32767
+min-min v = omega arith
+
+pub reading-held : (n : Number) → clampedReading (readingOf (saturated n)) ≡ clampedReading (readingOf n)
+unfolding clampedReading readingOf saturated
+reading-held number.Wrong = refl
+reading-held number.Dash = refl
+reading-held (number.Plus v) = rw (min-min v)
+reading-held (number.Minus v) = rw (clamped-minus (min v 65535), clamped-minus v, min-min v)
+
+-- ---- lines
+
+-- the exact numbers of a line whose numbers the code has as i and v: what is handed on is the same
+pub record Exact (p : Pair) (i v : Number) : Type 0 where
+  pub index : Number
+  pub value : Number
+  pub exact : p ≡ Of index value
+  pub same-index : clampedIndex (indexOf i) ≡ clampedIndex (indexOf index)
+  pub same-reading : clampedReading (readingOf v) ≡ clampedReading (readingOf value)
+  pub same-count : countOf v ≡ clampedCount (countOf value)
+
+pub pair-held : (p : Pair) {i v : Number} → Of i v ≡ saturatedPair p → Exact p i v
+unfolding saturatedPair
+pair-held Wrong e = absurd (never (cc))
+pair-held (Of i v) e = record {
+  index = i;
+  value = v;
+  exact = refl;
+  same-index = cc (index-held i);
+  same-reading = cc (reading-held v);
+  same-count = cc (count-held v);
+}
+
+pub pair-wrong : (p : Pair) → Wrong ≡ saturatedPair p → p ≡ Wrong
+unfolding saturatedPair
+pair-wrong Wrong e = refl
+pair-wrong (Of i v) e = cc
+
+-- a letter alone, and bus fields, have no number to hold
+pub alone-clamped : (e : Event) (s : List ℕ) → clampedEvent e ≡ e → clampedParsed (aloneLine e s) ≡ aloneLine e s
+unfolding clampedParsed aloneLine
+alone-clamped e s h = pick-each (λ (p : Parsed). clampedParsed p ≡ p) (eqb (length (fieldsOf s)) 1) (ap Fine h) refl
+
+write-by-clamped : (a r b : Hex) → clampedParsed (writeBy a r b) ≡ writeBy a r b
+unfolding clampedParsed clampedEvent writeBy
+write-by-clamped hex.Wrong r b = refl
+write-by-clamped (hex.Byte a) hex.Wrong b = refl
+write-by-clamped (hex.Byte a) (hex.Byte r) hex.Wrong = refl
+write-by-clamped (hex.Byte a) (hex.Byte r) (hex.Byte b) = refl
+
+read-by-clamped : (a r : Hex) → clampedParsed (readBy a r) ≡ readBy a r
+unfolding clampedParsed clampedEvent readBy
+read-by-clamped hex.Wrong r = refl
+read-by-clamped (hex.Byte a) hex.Wrong = refl
+read-by-clamped (hex.Byte a) (hex.Byte r) = refl
+
+pub write-clamped : (s : List ℕ) → clampedParsed (writeLine s) ≡ writeLine s
+unfolding clampedParsed writeLine
+write-clamped s =
+    pick-each (λ (p : Parsed). clampedParsed p ≡ p) (eqb (length (fieldsOf s)) 4) (write-by-clamped (hexByteOf (fieldAt s 1)) (hexByteOf (fieldAt s 2)) (hexByteOf (fieldAt s 3))) refl
+
+pub read-clamped : (s : List ℕ) → clampedParsed (readLine s) ≡ readLine s
+unfolding clampedParsed readLine
+read-clamped s =
+    pick-each (λ (p : Parsed). clampedParsed p ≡ p) (eqb (length (fieldsOf s)) 3) (read-by-clamped (hexByteOf (fieldAt s 1)) (hexByteOf (fieldAt s 2))) refl

@@ -1,0 +1,258 @@
+// A line of text as an event (document 01, "Lines and refusals"). The ranges of its numbers are the event's own business.
+ghost use mathlib.Core.Path.{_≡_};
+ghost use Prim.Native.Nat.{min};
+ghost use lib.IntN.{pos, negℤ};
+ghost use Rattle.text.specs.Number.{saturated};
+ghost use Rattle.parse.specs.Parse.{numberAt, letterOf, indexOf, readingOf, countOf, pairOf, temperatureLine, voltageLine, fanLine, hotLine, pinLine, aloneLine, writeBy, writeLine, readBy, readLine, eventOf};
+ghost use Rattle.parse.specs.Clamped.{saturatedPair, clampedIndex, clampedReading, clampedParsed};
+use event::Event;
+use state::Count;
+use temperature::Reading;
+use text::Hex;
+use text::Number;
+
+// What a line says: nothing that is spelled right, or an event.
+pub enum Parsed {
+    Wrong,
+    Fine(Event),
+}
+
+// An index and a value, both spelled right.
+pub enum Pair {
+    Wrong,
+    Of(Number, Number),
+}
+
+// ---- numbers
+
+// An index; what is no number from 1 on counts as 0, and all from 255 on as 255: no range holds either.
+fn index_of(n: Number) -> u8
+    ensures { λ r. ⌜ r ≡ clampedIndex (indexOf n) ⌝ }
+{
+    match n {
+        Number::Wrong => 0,
+        Number::Dash => 0,
+        Number::Plus(v) => { if v < 255 { v as u8 } else { 255 } }
+        Number::Minus(_) => 0,
+    }
+}
+
+// A number as it is, or 32767, which no range holds.
+fn above(v: u16) -> i16
+    ensures { λ r. ⌜ r ≡ pos (min v 32767) ⌝ }
+{
+    if v < 32767 { v as i16 } else { 32767 }
+}
+
+fn below(v: u16) -> i16
+    ensures { λ r. ⌜ r ≡ negℤ (pos (min v 32767)) ⌝ }
+{
+    0 - above(v)
+}
+
+fn reading_of(n: Number) -> Reading
+    ensures { λ r. ⌜ r ≡ clampedReading (readingOf n) ⌝ }
+{
+    match n {
+        Number::Wrong => Reading::Missing,
+        Number::Dash => Reading::Missing,
+        Number::Plus(v) => Reading::Taken(above(v)),
+        Number::Minus(v) => Reading::Taken(below(v)),
+    }
+}
+
+// A count; one below 0 counts as 65535, which no range holds.
+fn count_of(n: Number) -> Count
+    ensures { λ r. ⌜ r ≡ countOf n ⌝ }
+{
+    match n {
+        Number::Wrong => Count::Missing,
+        Number::Dash => Count::Missing,
+        Number::Plus(v) => Count::Taken(v),
+        Number::Minus(_) => Count::Taken(65535),
+    }
+}
+
+// ---- lines
+
+// The number in field k.
+fn number_at(line: &[u8], k: usize) -> Number
+    ensures { λ r. ⌜ r ≡ saturated (numberAt (now (line .entry)) k) ⌝ }
+{
+    text::decimal(text::field(line, k))
+}
+
+fn pair_of(line: &[u8]) -> Pair
+    ensures { λ r. ⌜ r ≡ saturatedPair (pairOf (now (line .entry))) ⌝ }
+{
+    if text::count_fields(line) != 3 {
+        return Pair::Wrong;
+    }
+    let i = number_at(line, 1);
+    let v = number_at(line, 2);
+    if text::is_spelt(i) {
+        if text::is_spelt(v) {
+            return Pair::Of(i, v);
+        }
+    }
+    Pair::Wrong
+}
+
+fn temperature_line(line: &[u8]) -> Parsed
+    ensures { λ r. ⌜ r ≡ clampedParsed (temperatureLine (pairOf (now (line .entry)))) ⌝ }
+{
+    match pair_of(line) {
+        Pair::Wrong => Parsed::Wrong,
+        Pair::Of(i, v) => Parsed::Fine(Event::Temperature {
+            zone: index_of(i),
+            reading: reading_of(v),
+        }),
+    }
+}
+
+fn voltage_line(line: &[u8]) -> Parsed
+    ensures { λ r. ⌜ r ≡ clampedParsed (voltageLine (pairOf (now (line .entry)))) ⌝ }
+{
+    match pair_of(line) {
+        Pair::Wrong => Parsed::Wrong,
+        Pair::Of(i, v) => Parsed::Fine(Event::Voltage {
+            channel: index_of(i),
+            count: count_of(v),
+        }),
+    }
+}
+
+fn fan_line(line: &[u8]) -> Parsed
+    ensures { λ r. ⌜ r ≡ clampedParsed (fanLine (pairOf (now (line .entry)))) ⌝ }
+{
+    match pair_of(line) {
+        Pair::Wrong => Parsed::Wrong,
+        Pair::Of(i, v) => Parsed::Fine(Event::Fan {
+            fan: index_of(i),
+            count: count_of(v),
+        }),
+    }
+}
+
+fn hot_line(line: &[u8]) -> Parsed
+    ensures { λ r. ⌜ r ≡ clampedParsed (hotLine (pairOf (now (line .entry)))) ⌝ }
+{
+    match pair_of(line) {
+        Pair::Wrong => Parsed::Wrong,
+        Pair::Of(i, v) => Parsed::Fine(Event::Hot {
+            input: index_of(i),
+            level: count_of(v),
+        }),
+    }
+}
+
+fn pin_line(line: &[u8]) -> Parsed
+    ensures { λ r. ⌜ r ≡ clampedParsed (pinLine (now (line .entry))) ⌝ }
+{
+    if text::count_fields(line) != 2 {
+        return Parsed::Wrong;
+    }
+    let v = number_at(line, 1);
+    if text::is_spelt(v) {
+        return Parsed::Fine(Event::Pin { level: count_of(v) });
+    }
+    Parsed::Wrong
+}
+
+// A line that is a letter alone.
+fn alone_line(line: &[u8], event: Event) -> Parsed
+    ensures { λ r. ⌜ r ≡ aloneLine event (now (line .entry)) ⌝ }
+{
+    if text::count_fields(line) != 1 {
+        return Parsed::Wrong;
+    }
+    Parsed::Fine(event)
+}
+
+fn write_by(address: Hex, register: Hex, byte: Hex) -> Parsed
+    ensures { λ r. ⌜ r ≡ writeBy address register byte ⌝ }
+{
+    let Hex::Byte(a) = address else {
+        return Parsed::Wrong;
+    };
+    let Hex::Byte(r) = register else {
+        return Parsed::Wrong;
+    };
+    let Hex::Byte(b) = byte else {
+        return Parsed::Wrong;
+    };
+    Parsed::Fine(Event::Write {
+        address: a,
+        register: r,
+        byte: b,
+    })
+}
+
+fn write_line(line: &[u8]) -> Parsed
+    ensures { λ r. ⌜ r ≡ writeLine (now (line .entry)) ⌝ }
+{
+    if text::count_fields(line) != 4 {
+        return Parsed::Wrong;
+    }
+    write_by(
+        text::hex_byte(text::field(line, 1)),
+        text::hex_byte(text::field(line, 2)),
+        text::hex_byte(text::field(line, 3)),
+    )
+}
+
+fn read_by(address: Hex, register: Hex) -> Parsed
+    ensures { λ r. ⌜ r ≡ readBy address register ⌝ }
+{
+    let Hex::Byte(a) = address else {
+        return Parsed::Wrong;
+    };
+    let Hex::Byte(r) = register else {
+        return Parsed::Wrong;
+    };
+    Parsed::Fine(Event::Read {
+        address: a,
+        register: r,
+    })
+}
+
+fn read_line(line: &[u8]) -> Parsed
+    ensures { λ r. ⌜ r ≡ readLine (now (line .entry)) ⌝ }
+{
+    if text::count_fields(line) != 3 {
+        return Parsed::Wrong;
+    }
+    read_by(
+        text::hex_byte(text::field(line, 1)),
+        text::hex_byte(text::field(line, 2)),
+    )
+}
+
+// The letter of a line; 0, which is none, where its first field is not one byte.
+pub fn letter_of(line: &[u8]) -> u8
+    ensures { λ r. ⌜ r ≡ letterOf (now (line .entry)) ⌝ }
+{
+    let first = text::field(line, 0);
+    if first.len() == 1 {
+        return first[0];
+    }
+    0
+}
+
+// The event that a line says by its letter.
+pub fn event_of(letter: u8, line: &[u8]) -> Parsed
+    ensures { λ r. ⌜ r ≡ clampedParsed (eventOf letter (now (line .entry))) ⌝ }
+{
+    match letter {
+        b'A' => pin_line(line),
+        b'F' => fan_line(line),
+        b'H' => hot_line(line),
+        b'K' => alone_line(line, Event::Tick),
+        b'R' => read_line(line),
+        b'T' => temperature_line(line),
+        b'V' => voltage_line(line),
+        b'W' => write_line(line),
+        b'X' => alone_line(line, Event::Reset),
+        _ => Parsed::Wrong,
+    }
+}

@@ -1,0 +1,105 @@
+// Runs many sessions of lines, one after the other: a line that begins with # is the title of the next, which starts from power-on.
+ghost use Prim.Native.Nat.{_≤_};
+ghost use lib.ListN.{length};
+use libc::STDIN_FILENO;
+use libc::STDOUT_FILENO;
+use line::Session;
+
+const INPUT: usize = 32768;
+
+const ROOM: usize = 64;
+
+const LINE_FEED: u8 = 10;
+
+// A session, and the number of its next line.
+struct Run {
+    session: Session,
+    number: u64,
+}
+
+fn begin(title: &[u8]) -> Run {
+    io::write_all(STDOUT_FILENO, title);
+    io::write_all(STDOUT_FILENO, b"\n");
+    Run {
+        session: line::start(),
+        number: 1,
+    }
+}
+
+fn write_first(out: &[u8], n: usize) {
+    if n <= out.len() {
+        io::write_all(STDOUT_FILENO, &out[..n]);
+    }
+}
+
+// Gives a line to the chip and writes what it prints.
+fn give(run: Run, line: &[u8]) -> Run {
+    let mut out = [0u8; ROOM];
+    let session = run.session;
+    let taken = line::take_line(session, line, &mut out);
+    let reply = taken.reply;
+    write_first(&out, reply.length);
+    let refusal = reply.refusal;
+    if refusal != 0 {
+        let n = text::write_refusal(&mut out, run.number, refusal);
+        write_first(&out, n);
+    }
+    let after = taken.session;
+    let number = if run.number < u64::MAX {
+        run.number + 1
+    } else {
+        run.number
+    };
+    Run {
+        session: after,
+        number: number,
+    }
+}
+
+fn is_title(line: &[u8]) -> bool {
+    if line.len() == 0 {
+        return false;
+    }
+    line[0] == b'#'
+}
+
+fn take(run: Run, line: &[u8]) -> Run {
+    if is_title(line) {
+        return begin(line);
+    }
+    give(run, line)
+}
+
+// How many bytes stand before the first line feed.
+fn line_width(s: &[u8]) -> usize
+    ensures { λ r. ⌜ r ≤ length (now (s .entry)) ⌝ }
+{
+    let mut i = 0;
+    while i < s.len() {
+        if s[i] == LINE_FEED {
+            return i;
+        }
+        i += 1;
+    }
+    i
+}
+
+fn take_all(start: Run, s: &[u8]) {
+    let mut run = start;
+    let mut i = 0;
+    while i < s.len() {
+        let e = i + line_width(&s[i..]);
+        run = take(run, &s[i..e]);
+        i = e + 1;
+    }
+}
+
+fn main() {
+    let mut input = [0u8; INPUT];
+    let n = io::read_full(STDIN_FILENO, &mut input);
+    let run = Run {
+        session: line::start(),
+        number: 1,
+    };
+    take_all(run, &input[..n]);
+}

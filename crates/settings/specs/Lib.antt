@@ -1,0 +1,5 @@
+pub mod Settings
+pub mod Ranges
+pub mod Entries
+pub mod InRange
+pub mod Cases

@@ -1,0 +1,37 @@
+-- Lists of events as demand 3 speaks of them: none refused, and alike but that temperatures in the second may be hotter. Assumes nothing.
+use mathlib.Core.Path.{_≡_}
+use mathlib.Core.List.{List, [], _∷_}
+use Prim.Native.Nat.{ℕ, _≤_}
+use Rattle.temperature.specs.declared.Reading.{Reading}
+use Rattle.temperature.specs.Order.{NoHotter}
+use Rattle.state.specs.declared.Chip.{Chip}
+use Rattle.event.specs.declared.Event.{Event}
+use Rattle.event.specs.declared.Event.the-variants.{Temperature}
+use Rattle.event.specs.declared.Answer.{Answer}
+use Rattle.event.specs.declared.Answer.the-variants.{Refused, Ticked}
+use Rattle.event.specs.declared.Tick.{Tick}
+use Rattle.event.specs.Event.{steppedChip}
+
+-- the same event, or a T event for the same zone that is hotter in the second; missing is hottest
+pub data Alike : Event → Event → Type 0 where
+  same : (e : Event) → Alike e e
+  hotter : (zone : ℕ) {r s : Reading} → NoHotter r s → Alike (Temperature zone r) (Temperature zone s)
+
+-- alike place by place
+pub data AllAlike : List Event → List Event → Type 0 where
+  none : AllAlike [] []
+  more : {e f : Event} {es fs : List Event} → Alike e f → AllAlike es fs → AllAlike (e ∷ es) (f ∷ fs)
+
+-- none of the events is refused, from a chip on
+pub data NoneRefused : Chip → List Event → Type 0 where
+  none : {c : Chip} → NoneRefused c []
+  more : {c : Chip} {e : Event} {es : List Event} → ((n : ℕ) → steppedChip c e .answer ≡ Refused n → ⊥) → NoneRefused (steppedChip c e .chip) es → NoneRefused c (e ∷ es)
+
+-- the duties of a tick's answer, before the start-up kick, are at least as high in the second; other answers are not compared
+pub data NoHigher : Answer → Answer → Type 0 where
+  ticks : {t u : Tick} → t .duty1 ≤ u .duty1 → t .duty2 ≤ u .duty2 → NoHigher (Ticked t) (Ticked u)
+  others : {a b : Answer} → ((t : Tick) → a ≡ Ticked t → ⊥) → ((t : Tick) → b ≡ Ticked t → ⊥) → NoHigher a b
+
+pub data AllNoHigher : List Answer → List Answer → Type 0 where
+  none : AllNoHigher [] []
+  more : {a b : Answer} {xs ys : List Answer} → NoHigher a b → AllNoHigher xs ys → AllNoHigher (a ∷ xs) (b ∷ ys)

@@ -1,0 +1,66 @@
+-- Two chips, one no hotter than the other: they differ in zones and drive alone. Assumes nothing.
+use mathlib.Core.Path.{_≡_, refl, sym, _∙_}
+use mathlib.Core.Bool.{Bool}
+use mathlib.Core.List.{List}
+use Prim.Native.Nat.{ℕ}
+use native.Mathlib.Omega.{arith}
+use lib.ListN.{length, getD, set, length-set}
+use Rattle.laws.specs.Store.{set-related}
+use Rattle.temperature.specs.declared.Reading.{Reading}
+use Rattle.temperature.specs.Order.{NoHotter, no-hotter-refl}
+use Rattle.state.specs.declared.Chip.{Chip}
+use Rattle.state.specs.declared.Setup.{Setup}
+use Rattle.state.specs.declared.Drive.{Drive}
+use Rattle.state.specs.declared.Zone.{Zone}
+use Rattle.state.specs.declared.Gauge.{Gauge}
+use Rattle.state.specs.declared.Pin.{Pin}
+use Rattle.state.specs.Parts.{noZone, zoneAt}
+use Rattle.state.specs.With.{withZones, withDrive}
+use Rattle.state.specs.Order.{NoHigher, Cooler}
+
+-- ---- zones
+
+-- as many zones, each no hotter than its neighbour
+pub record ZonesCooler (zs ws : List Zone) : Type 0 where
+  pub many : length zs ≡ length ws
+  pub each : (i : ℕ) → NoHotter (getD zs i noZone .reading) (getD ws i noZone .reading)
+
+-- zones are no hotter than themselves
+zones-self : (zs : List Zone) → ZonesCooler zs zs
+zones-self zs = record { many = refl; each = λ i. no-hotter-refl _ }
+
+-- one zone of both gets a reading, the second a reading no cooler
+pub zones-set : {zs ws : List Zone} → ZonesCooler zs ws → (i : ℕ) {r s : Reading} → NoHotter r s → ZonesCooler (set zs i (record { reading = r })) (set ws i (record { reading = s }))
+zones-set {zs} {ws} z i p = record {
+  many = length-set zs i _ ∙ z .many ∙ sym (length-set ws i _);
+  each = λ j. set-related (λ (a b : Zone). NoHotter (a .reading) (b .reading)) zs ws i j _ _ noZone (z .many) (z .each j) p;
+}
+
+-- ---- chips
+
+-- chips with the same of all else
+pub same-but : {s : Setup} {r : List ℕ} {zs ws : List Zone} {v f : List Gauge} {h : List Bool} {p : Pin} {d e : Drive} → ZonesCooler zs ws → NoHigher d e → Cooler (record { setup = s; registers = r; zones = zs; volts = v; fans = f; hot = h; pin = p; drive = d }) (record { setup = s; registers = r; zones = ws; volts = v; fans = f; hot = h; pin = p; drive = e })
+unfolding zoneAt
+same-but z n = record {
+  setup = refl;
+  registers = refl;
+  zones = z .each;
+  volts = refl;
+  fans = refl;
+  hot = refl;
+  pin = refl;
+  drive = n;
+}
+
+-- a chip is no hotter than itself
+pub cooler-self : (c : Chip) → Cooler c c
+cooler-self c =
+    same-but (zones-self _) (record { steps = λ i. omega arith; boosts = λ i t. t; ramps = refl; duties = λ i. omega arith })
+
+-- the chip c, but with other zones and another drive
+abbrev pub beside : Chip → List Zone → Drive → Chip
+beside c zs x = withDrive (withZones c zs) x
+
+-- a chip that is no cooler than c is c, but with its own zones and drive
+pub is-beside : {c d : Chip} → Cooler c d → d ≡ beside c (d .zones) (d .drive)
+is-beside k = rw (k .setup, k .registers, k .volts, k .fans, k .hot, k .pin)

@@ -1,0 +1,123 @@
+-- What events leave of the voltages and fan counts: a reading that is missing stays so until its own event gives one. Assumes nothing.
+use mathlib.Core.Path.{_≡_, refl, ap, _∙_}
+use mathlib.Core.List.{List}
+use Prim.Native.Nat.{ℕ, zero, suc, _-_}
+use native.Mathlib.Omega.{arith}
+use lib.Dec.{ltb}
+use lib.ListN.{getD, set}
+use Rattle.laws.specs.Pick.{both}
+use Rattle.laws.specs.Pointwise.{pick-each}
+use Rattle.laws.specs.Store.{set-cases}
+use Rattle.map.specs.Names.{TEMPERATURE-SOURCE-SELECT}
+use Rattle.state.specs.declared.Chip.{Chip}
+use Rattle.state.specs.declared.Gauge.{Gauge}
+use Rattle.state.specs.declared.Count.{Count}
+use Rattle.state.specs.declared.Count.the-variants.{Taken, Missing}
+use Rattle.state.specs.Parts.{noGauge, registerAt, voltAt, fanAt}
+use Rattle.state.specs.With.{withZone, withVolt, withFan}
+use Rattle.sense.specs.Events.{feedsThree, feedsFour, fedZone, tookVoltage, tookFan}
+use Rattle.sense.specs.Keeps.{temperature-keeps, voltage-keeps, fan-keeps, hot-keeps, pin-keeps, reset-keeps, missed-keeps}
+use Rattle.bus.specs.Transactions.{write-keeps, read-keeps}
+use Rattle.event.specs.declared.Event.{Event}
+use Rattle.event.specs.declared.Event.the-variants.{Temperature, Voltage, Fan, Hot, Pin, Tick, Reset, Write, Read}
+use Rattle.event.specs.declared.Stepped.{Stepped}
+use Rattle.event.specs.Event.{indexIn, readingIn, countIn, levelIn, quietStep, refusedStep, temperatureStep, voltageStep, fanStep, hotStep, pinStep, writtenAnswer, writeStep, readAnswer, readStep, steppedChip}
+use Rattle.event.specs.Ticking.{tick-leaves}
+
+-- ---- events that give no voltage and no fan count
+
+-- d has the voltages and the fan counts of c
+pub record SameGauges (c d : Chip) : Type 0 where
+  pub volts : d .volts ≡ c .volts
+  pub fans : d .fans ≡ c .fans
+
+-- an event gives a voltage, or a fan count, or neither
+pub data Gives : Event → Type 0 where
+  volt : (channel : ℕ) (n : Count) → Gives (Voltage channel n)
+  fan : (number : ℕ) (n : Count) → Gives (Fan number n)
+  neither : {e : Event} → ((c : Chip) → SameGauges c (steppedChip c e .chip)) → Gives e
+
+-- a step leaves them
+abbrev Leaves : Chip → Stepped → Type 0
+Leaves c s = SameGauges c (s .chip)
+
+-- a refused one does
+refused : (c : Chip) → Leaves c (refusedStep c)
+unfolding refusedStep
+refused c = record { volts = refl; fans = refl }
+
+-- T, H, A, K, X, W and R leave them
+pub gives : (e : Event) → Gives e
+unfolding steppedChip temperatureStep hotStep pinStep quietStep writeStep writtenAnswer readStep readAnswer
+gives (Temperature zone r) =
+    neither (λ c. let k = temperature-keeps c (zone - 1) r in
+    pick-each (Leaves c) (both (indexIn 5 zone) (readingIn r)) (record { volts = k .volts; fans = k .fans }) (refused c))
+gives (Voltage channel n) = volt channel n
+gives (Fan number n) = fan number n
+gives (Hot input level) =
+    neither (λ c. let k = hot-keeps c (input - 1) _ in
+    pick-each (Leaves c) (both (indexIn 4 input) (levelIn 1 level)) (record { volts = k .volts; fans = k .fans }) (refused c))
+gives (Pin level) =
+    neither (λ c. let k = pin-keeps c _ in
+    pick-each (Leaves c) (levelIn 2 level) (record { volts = k .volts; fans = k .fans }) (refused c))
+gives Tick =
+    neither (λ c. record { volts = tick-leaves c .volts ∙ missed-keeps c .volts; fans = tick-leaves c .fans ∙ missed-keeps c .fans })
+gives Reset = neither (λ c. record { volts = reset-keeps c .volts; fans = reset-keeps c .fans })
+gives (Write address a byte) =
+    neither (λ c. let k = write-keeps c address a byte in
+    pick-each (Leaves c) (ltb 0x7F address) (refused c) (record { volts = k .volts; fans = k .fans }))
+gives (Read address a) =
+    neither (λ c. let k = read-keeps c address a .kept in
+    pick-each (Leaves c) (ltb 0x7F address) (refused c) (record { volts = k .volts; fans = k .fans }))
+
+-- ---- V and F
+
+-- a missing reading stays so if what is stored in its own place is missing
+stays : (l : List Gauge) (i j : ℕ) (n : Count) → getD l i noGauge .count ≡ Missing → (j ≡ i → n ≡ Missing) → getD (set l j (record { count = n })) i noGauge .count ≡ Missing
+stays l i j n m own = set-cases (λ (g : Gauge). g .count ≡ Missing) l j i (record { count = n }) noGauge m own
+
+-- the zone that a voltage feeds is none of the voltages
+fed-volts : (c : Chip) (channel : ℕ) (n : Count) → fedZone c channel n .volts ≡ c .volts
+unfolding fedZone withZone
+fed-volts c channel n =
+    pick-each Same (feedsThree (registerAt c TEMPERATURE-SOURCE-SELECT) channel) refl (pick-each Same (feedsFour (registerAt c TEMPERATURE-SOURCE-SELECT) channel) refl refl)
+  where
+    Same : Chip → Type 0
+    Same d = d .volts ≡ c .volts
+
+-- what an event gives reading i is missing, if the event gives it no taken one; events count from 1
+unless-taken : (event : ℕ → Count → Event) (i k : ℕ) (n : Count) → ((m : ℕ) → event (suc k) n ≡ event (suc i) (Taken m) → ⊥) → suc k - 1 ≡ i → n ≡ Missing
+unless-taken event i k Missing h e = refl
+unless-taken event i k (Taken m) h e = absurd (h m (ap (λ (j : ℕ). event (suc j) (Taken m)) (omega arith)))
+
+module _ (c : Chip) (i : ℕ) where
+  -- V
+  voltage-missing : (j : ℕ) (n : Count) → voltAt c i ≡ Missing → (j ≡ i → n ≡ Missing) → voltAt (tookVoltage c j n) i ≡ Missing
+  unfolding tookVoltage withVolt voltAt
+  voltage-missing j n m own =
+      pick-each (λ (d : Chip). voltAt d i ≡ Missing) (ltb j 16) (rw (fed-volts _ j n) (stays (c .volts) i j n m own)) m
+
+  -- F
+  fan-missing : (j : ℕ) (n : Count) → fanAt c i ≡ Missing → (j ≡ i → n ≡ Missing) → fanAt (tookFan c j n) i ≡ Missing
+  unfolding tookFan withFan fanAt
+  fan-missing j n m own = pick-each (λ (d : Chip). fanAt d i ≡ Missing) (ltb j 4) (stays (c .fans) i j n m own) m
+
+  -- a missing voltage stays missing under an event that does not give it a taken reading
+  pub volt-stays : {e : Event} → Gives e → ((n : ℕ) → e ≡ Voltage (suc i) (Taken n) → ⊥) → voltAt c i ≡ Missing → voltAt (steppedChip c e .chip) i ≡ Missing
+  unfolding steppedChip voltageStep fanStep quietStep refusedStep indexIn voltAt
+  volt-stays (volt zero n) h m = m
+  volt-stays (volt (suc k) n) h m =
+      pick-each (λ (s : Stepped). voltAt (s .chip) i ≡ Missing) (both (indexIn 16 (suc k)) (countIn 255 n)) (voltage-missing (suc k - 1) n m (unless-taken Voltage i k n h)) m
+  volt-stays (fan number n) h m =
+      pick-each (λ (s : Stepped). voltAt (s .chip) i ≡ Missing) (both (indexIn 4 number) (countIn 16383 n)) (rw (fan-keeps c (number - 1) n .volts) m) m
+  volt-stays (neither f) h m = rw (f c .volts, voltAt) m
+
+  -- a missing fan count stays missing under an event that does not give it a taken reading
+  pub fan-stays : {e : Event} → Gives e → ((n : ℕ) → e ≡ Fan (suc i) (Taken n) → ⊥) → fanAt c i ≡ Missing → fanAt (steppedChip c e .chip) i ≡ Missing
+  unfolding steppedChip voltageStep fanStep quietStep refusedStep indexIn fanAt
+  fan-stays (volt channel n) h m =
+      pick-each (λ (s : Stepped). fanAt (s .chip) i ≡ Missing) (both (indexIn 16 channel) (countIn 255 n)) (rw (voltage-keeps c (channel - 1) n .fans) m) m
+  fan-stays (fan zero n) h m = m
+  fan-stays (fan (suc k) n) h m =
+      pick-each (λ (s : Stepped). fanAt (s .chip) i ≡ Missing) (both (indexIn 4 (suc k)) (countIn 16383 n)) (fan-missing (suc k - 1) n m (unless-taken Fan i k n h)) m
+  fan-stays (neither f) h m = rw (f c .fans, fanAt) m

@@ -1,0 +1,514 @@
+// The bench's job as a plain C program, written from document 01 and the data sheet's register list for comparison: same input, same output.
+// It shares nothing with the Rattle sources. usage: bench < session
+#include <stdint.h>
+#include <stdio.h>
+#include <string.h>
+#include <unistd.h>
+
+enum { MISSING = -1000000 };
+
+// ---- the register map, from the data sheet: address or range, default, writable bits, lock mark
+
+struct row {
+    uint8_t from, to, value, writable, locked;
+};
+
+static const struct row rows[] = {
+    {0x00, 0x00, 0x00, 0x01, 1}, {0x01, 0x01, 0x00, 0xFF, 0}, {0x05, 0x05, 0x00, 0x0F, 1}, {0x0C, 0x0C, 0x00, 0xC0, 1},
+    {0x0D, 0x0D, 0x00, 0xFF, 1}, {0x0E, 0x0E, 0x00, 0xC0, 1}, {0x0F, 0x0F, 0x00, 0xFF, 1}, {0x31, 0x31, 0x00, 0x1F, 1},
+    {0x32, 0x32, 0x00, 0x77, 1}, {0x33, 0x34, 0x00, 0xF8, 1}, {0x35, 0x35, 0x30, 0xFF, 1}, {0x36, 0x38, 0x00, 0xFF, 1},
+    {0x39, 0x3A, 0x80, 0xFF, 1}, {0x3B, 0x3C, 0x00, 0xFF, 1}, {0x3D, 0x3D, 0x00, 0x0F, 1}, {0x3E, 0x3E, 0x01, 0x00, 0},
+    {0x3F, 0x3F, 0x79, 0x00, 0}, {0x40, 0x40, 0x00, 0x3F, 0}, {0x41, 0x46, 0x00, 0xFF, 0}, {0x47, 0x47, 0x00, 0x0F, 0},
+    {0x48, 0x48, 0x00, 0x3F, 0}, {0x49, 0x4E, 0x00, 0xFF, 0}, {0x4F, 0x4F, 0x00, 0x0F, 0}, {0x78, 0x7F, 0x80, 0xFF, 0},
+    {0x80, 0x81, 0x3C, 0xFF, 1}, {0x82, 0x83, 0x23, 0xFF, 1}, {0x84, 0x85, 0x00, 0xFF, 0}, {0x8E, 0x8F, 0x00, 0x3F, 0},
+    {0xB0, 0xB1, 0xFF, 0xFF, 0}, {0xB2, 0xB3, 0x17, 0xFF, 0}, {0xBC, 0xBC, 0x00, 0x7F, 0}, {0xBD, 0xBD, 0x00, 0xFF, 0},
+    {0xBE, 0xBF, 0x00, 0xFF, 1}, {0xC0, 0xC1, 0x44, 0xFF, 1}, {0xC2, 0xC4, 0x00, 0xFF, 1}, {0xC5, 0xC6, 0x00, 0xFF, 0},
+    {0xC7, 0xC7, 0x11, 0xFF, 0}, {0xC8, 0xCA, 0x00, 0xFF, 1}, {0xCB, 0xCB, 0x00, 0x0F, 1}, {0xCC, 0xCE, 0x00, 0xFF, 1},
+    {0xCF, 0xCF, 0x00, 0x0F, 1}, {0xD0, 0xDF, 0x00, 0xFF, 1}, {0xE0, 0xE0, 0x00, 0xFF, 0}, {0xE1, 0xE1, 0x3F, 0x7F, 1},
+    {0xE2, 0xE2, 0x00, 0x3F, 1}, {0xE3, 0xE3, 0x00, 0x7F, 1}, {0xE4, 0xE4, 0x03, 0x03, 0}, {0xE5, 0xE5, 0xFF, 0xFF, 0},
+    {0xE6, 0xE6, 0x0F, 0x0F, 0}, {0xE7, 0xE7, 0xFF, 0xFF, 0}, {0xE8, 0xE8, 0x0F, 0x0F, 0}, {0xE9, 0xE9, 0x07, 0x0F, 0},
+    {0xEA, 0xEA, 0xFF, 0xFF, 0}, {0xEB, 0xEB, 0x07, 0x0F, 0}, {0xEC, 0xEC, 0xFF, 0xFF, 0}, {0xED, 0xED, 0x3F, 0x3F, 0},
+    {0xEE, 0xEF, 0x00, 0x3F, 0},
+};
+
+static uint8_t initial[256], writable[256], locked[256];
+
+static void fill_map(void)
+{
+    for (size_t i = 0; i < sizeof rows / sizeof rows[0]; i++)
+        for (int a = rows[i].from; a <= rows[i].to; a++) {
+            initial[a] = rows[i].value;
+            writable[a] = rows[i].writable;
+            locked[a] = rows[i].locked;
+        }
+    for (int a = 0x90; a <= 0xAF; a++) { // voltage limits: low 00h, high FFh
+        initial[a] = a % 2 ? 0xFF : 0x00;
+        writable[a] = 0xFF;
+    }
+    for (int a = 0xB4; a <= 0xBB; a++) { // fan limits
+        initial[a] = a % 2 ? 0xFF : 0xFC;
+        writable[a] = a % 2 ? 0xFF : 0xFC;
+    }
+}
+
+// ---- the chip
+
+struct setup {
+    int level, base[4], offset[2][12], hysteresis[2], duty[13], boost[6], boost_hysteresis, binding[2], override[2], start_duty[2],
+        start_count[2];
+};
+
+struct chip {
+    struct setup s;
+    uint8_t reg[256];
+    int zone[6]; // 1a, 1b, 2a, 2b, 3, 4 in half degrees
+    int volt[16], fan[4], hot[4];
+    int level, latched; // the pin; the slave address, or 0
+    int step[4], boosted[6], ramp[4], wait[4], duty[2], start[2];
+};
+
+static void power_on(struct chip *c, const struct setup *s)
+{
+    memset(c, 0, sizeof *c);
+    c->s = *s;
+    memcpy(c->reg, initial, 256);
+    for (int i = 0; i < 6; i++) c->zone[i] = MISSING;
+    for (int i = 0; i < 16; i++) c->volt[i] = MISSING;
+    for (int i = 0; i < 4; i++) c->fan[i] = MISSING;
+    c->level = s->level;
+}
+
+static const struct setup *plain_setup(void)
+{
+    static struct setup s;
+    s.level = 0;
+    for (int i = 0; i < 4; i++) s.base[i] = 30;
+    for (int i = 0; i < 12; i++) s.offset[0][i] = s.offset[1][i] = 2;
+    s.hysteresis[0] = s.hysteresis[1] = 2;
+    s.duty[0] = 0;
+    for (int i = 1; i < 13; i++) s.duty[i] = 48 + 16 * i;
+    for (int i = 0; i < 6; i++) s.boost[i] = MISSING;
+    s.boost_hysteresis = 3;
+    s.binding[0] = 17;
+    s.binding[1] = 4;
+    for (int i = 0; i < 2; i++) s.override[i] = MISSING, s.start_duty[i] = 128, s.start_count[i] = 2;
+    return &s;
+}
+
+static void mark_volt(struct chip *c, int i)
+{
+    c->reg[0x41 + i / 8] |= 1 << i % 8;
+    c->reg[0x49 + i / 8] |= 1 << i % 8;
+}
+
+static void mark_fan(struct chip *c, int i)
+{
+    c->reg[0x47] |= 1 << i;
+    c->reg[0x4F] |= 1 << i;
+}
+
+static int fan_limit(const struct chip *c, int i) { return c->reg[0xB5 + 2 * i] << 6 | c->reg[0xB4 + 2 * i] >> 2; }
+
+static void take_volt(struct chip *c, int i, int n)
+{
+    c->volt[i] = n;
+    if (n != MISSING && (n < c->reg[0x90 + 2 * i] || n > c->reg[0x91 + 2 * i])) mark_volt(c, i);
+    int source = c->reg[0x31], h = n == MISSING || n == 0 ? MISSING : 2 * (n - 128);
+    if (i == 10 && source & 0x01 && !(source & 0x10)) c->zone[4] = h;
+    if (i == 14 && source & 0x02) c->zone[5] = h;
+}
+
+static void take_fan(struct chip *c, int i, int n)
+{
+    c->fan[i] = n;
+    if (n != MISSING && n > fan_limit(c, i)) mark_fan(c, i);
+}
+
+static void take_temperature(struct chip *c, int zone, int h)
+{
+    if (zone == 4 && c->reg[0x31] & 0x11) return;
+    c->zone[zone] = h;
+}
+
+// ---- the bus
+
+static int transact(struct chip *c, int address)
+{
+    static const int slave[3] = {0x2C, 0x2E, 0x2D};
+    if (!c->latched && address >> 2 == 0x0B) c->latched = slave[c->level];
+    return c->latched == address && c->latched != 0;
+}
+
+// the zone whose whole byte stands at an address, or -1
+static int whole_zone(int a)
+{
+    switch (a) {
+    case 0x50: case 0x11: return 0;
+    case 0x06: case 0x13: return 1;
+    case 0x51: case 0x15: return 2;
+    case 0x07: case 0x17: return 3;
+    case 0x52: case 0x21: return 4;
+    case 0x53: case 0x23: return 5;
+    }
+    return -1;
+}
+
+static int half_zone(int a)
+{
+    if (a >= 0x10 && a <= 0x16 && a % 2 == 0) return (a - 0x10) / 2;
+    return a == 0x20 ? 4 : a == 0x22 ? 5 : -1;
+}
+
+static int floor_half(int h) { return h >= 0 ? h / 2 : -((1 - h) / 2); }
+
+static int zone_open(const struct chip *c, int zone)
+{
+    return zone == 4 ? c->reg[0x31] >> 4 & 1 : zone == 5 ? !(c->reg[0x31] >> 1 & 1) : 0;
+}
+
+static void write_register(struct chip *c, int a, int b)
+{
+    int z;
+    if (locked[a] && c->reg[0xE3] & 0x02) return;
+    if ((z = whole_zone(a)) >= 0) {
+        if (zone_open(c, z)) c->zone[z] = b == 0x80 ? MISSING : 2 * (b < 128 ? b : b - 256);
+    } else if ((z = half_zone(a)) >= 0) {
+        if (zone_open(c, z) && c->zone[z] != MISSING) c->zone[z] = 2 * floor_half(c->zone[z]) + (b >> 7);
+    } else if (a >= 0x40 && a <= 0x4F) {
+        c->reg[a] &= ~(b & writable[a]);
+    } else {
+        c->reg[a] = (c->reg[a] & ~writable[a]) | (b & writable[a]);
+    }
+}
+
+static int read_register(const struct chip *c, int a)
+{
+    int z;
+    if ((z = whole_zone(a)) >= 0) return c->zone[z] == MISSING ? 0x80 : floor_half(c->zone[z]) & 0xFF;
+    if ((z = half_zone(a)) >= 0) return c->zone[z] != MISSING && c->zone[z] & 1 ? 0x80 : 0;
+    if (a >= 0x56 && a <= 0x65) return c->volt[a - 0x56] == MISSING ? 0 : c->volt[a - 0x56];
+    if (a >= 0x6E && a <= 0x75) {
+        int n = c->fan[(a - 0x6E) / 2];
+        if (n == MISSING) n = 0x3FFF;
+        return a % 2 ? n >> 6 : n << 2 & 0xFF;
+    }
+    return c->reg[a];
+}
+
+static void reset_pin(struct chip *c)
+{
+    c->reg[0xE3] = (c->reg[0xE3] & ~0x02) | 0x04;
+    c->reg[0xE4] |= 0x03;
+}
+
+// ---- the tick
+
+static int hotter(int a, int b) { return a == MISSING || b == MISSING ? MISSING : a > b ? a : b; }
+
+static int reached(const struct chip *c, int table, int unit, int h)
+{
+    int n = 0, threshold = 2 * c->s.base[table];
+    for (int k = 0; k < 12; k++) {
+        threshold += unit * c->s.offset[table / 2][k];
+        if (threshold <= h) n++;
+    }
+    return n;
+}
+
+static int table_ask(struct chip *c, int table)
+{
+    int source = c->reg[0x31], bound = c->reg[0x35] >> (4 + table) & 1, h;
+    if (table % 2 == 0)
+        h = !bound ? c->zone[4] : source & 0x04 ? hotter(c->zone[0], c->zone[1]) : c->zone[0];
+    else
+        h = !bound ? c->zone[5] : source & 0x08 ? hotter(c->zone[2], c->zone[3]) : c->zone[2];
+    if (h == MISSING) {
+        c->step[table] = 12;
+        return 256;
+    }
+    int unit = c->reg[0xBD] >> (table < 2 ? 4 : 5) & 1 ? 1 : 2, now = reached(c, table, unit, h);
+    if (c->step[table] > now) {
+        int later = reached(c, table, unit, h + unit * c->s.hysteresis[table / 2]);
+        if (later < c->step[table]) c->step[table] = later;
+    } else {
+        c->step[table] = now;
+    }
+    return c->s.duty[c->step[table]];
+}
+
+static int errors(const struct chip *c)
+{
+    return __builtin_popcount(c->reg[0x41]) + __builtin_popcount(c->reg[0x42]) + __builtin_popcount(c->reg[0x47] & 0x0F);
+}
+
+static void tick(struct chip *c, int output[2])
+{
+    for (int i = 0; i < 16; i++)
+        if (c->volt[i] == MISSING && !(c->reg[0x90 + 2 * i] == 0x00 && c->reg[0x91 + 2 * i] == 0xFF)) mark_volt(c, i);
+    for (int i = 0; i < 4; i++)
+        if (c->fan[i] == MISSING && fan_limit(c, i) != 0x3FFF) mark_fan(c, i);
+
+    int ask[4], any = 0;
+    for (int t = 0; t < 4; t++) ask[t] = table_ask(c, t);
+    for (int z = 0; z < 6; z++) {
+        int enabled = z == 1 ? c->reg[0x31] >> 2 & 1 : z == 3 ? c->reg[0x31] >> 3 & 1 : 1, b = c->s.boost[z], h = c->zone[z];
+        if (!enabled || b == MISSING)
+            c->boosted[z] = 0;
+        else if (h == MISSING || h >= 2 * b)
+            c->boosted[z] = 1;
+        else if (h < 2 * (b - c->s.boost_hysteresis))
+            c->boosted[z] = 0;
+        any |= c->boosted[z];
+    }
+    for (int i = 0; i < 4; i++) {
+        int n = i < 2 ? c->reg[0xBF] & 15 : c->reg[0xBF] >> 4;
+        if (n == 0) {
+            c->ramp[i] = c->hot[i] ? 256 : 0;
+            c->wait[i] = 0;
+        } else if (++c->wait[i] >= n) {
+            c->wait[i] = 0;
+            c->ramp[i] += c->hot[i] ? 16 : -16;
+            if (c->ramp[i] > 256) c->ramp[i] = 256;
+            if (c->ramp[i] < 0) c->ramp[i] = 0;
+        }
+    }
+    for (int f = 0; f < 2; f++) {
+        int duty = 0;
+        if (c->s.override[f] != MISSING) duty = c->s.override[f];
+        for (int t = 0; t < 4; t++) {
+            if (c->s.override[f] == MISSING && c->s.binding[f] >> t & 1 && ask[t] > duty) duty = ask[t];
+            if (c->s.binding[f] >> (4 + t) & 1 && c->ramp[t] > duty) duty = c->ramp[t];
+        }
+        if (any && duty < 256) duty = 256;
+        if (c->duty[f] == 0 && duty > 0) c->start[f] = c->s.start_count[f];
+        c->duty[f] = output[f] = duty;
+        if (c->start[f] > 0) {
+            c->start[f]--;
+            if (output[f] < c->s.start_duty[f]) output[f] = c->s.start_duty[f];
+        }
+    }
+}
+
+// ---- lines
+
+struct part {
+    const unsigned char *at;
+    int len;
+};
+
+enum { WRONG = -2000000, DASH = MISSING, FAR = 1000000 };
+
+// a decimal, capped at one million either way; DASH for "-"; WRONG
+static int decimal(struct part p)
+{
+    int sign = 1, i = 0, v = 0;
+    if (p.len == 0) return WRONG;
+    if (p.at[0] == '-') {
+        if (p.len == 1) return DASH;
+        sign = -1;
+        i = 1;
+    }
+    if (p.at[i] == '0' && (p.len > i + 1 || sign < 0)) return WRONG;
+    for (; i < p.len; i++) {
+        if (p.at[i] < '0' || p.at[i] > '9') return WRONG;
+        v = 10 * v + (p.at[i] - '0');
+        if (v >= FAR) v = FAR - 1;
+    }
+    return sign * v;
+}
+
+static int digit(int b) { return b >= '0' && b <= '9' ? b - '0' : b >= 'A' && b <= 'F' ? b - 'A' + 10 : -1; }
+
+static int hex_byte(struct part p)
+{
+    if (p.len != 2 || digit(p.at[0]) < 0 || digit(p.at[1]) < 0) return WRONG;
+    return 16 * digit(p.at[0]) + digit(p.at[1]);
+}
+
+static int within(int v, int low, int high) { return v != DASH && v >= low && v <= high; }
+
+static int parse_setup(const struct part *f, struct setup *s)
+{
+    int n[59], k = 0, bad = 0;
+    for (int i = 0; i < 59; i++)
+        if ((n[i] = decimal(f[i + 1])) == WRONG) return 4;
+#define TAKE(field, low, high, none) (bad |= !(within(n[k], low, high) || (none && n[k] == DASH)), field = n[k++])
+    TAKE(s->level, 0, 2, 0);
+    for (int i = 0; i < 4; i++) TAKE(s->base[i], -127, 127, 0);
+    for (int i = 0; i < 24; i++) TAKE(s->offset[i / 12][i % 12], 0, 15, 0);
+    for (int i = 0; i < 2; i++) TAKE(s->hysteresis[i], 0, 15, 0);
+    for (int i = 0; i < 13; i++) TAKE(s->duty[i], 0, 256, 0);
+    for (int i = 0; i < 6; i++) TAKE(s->boost[i], -127, 127, 1);
+    TAKE(s->boost_hysteresis, 0, 15, 0);
+    for (int i = 0; i < 2; i++) TAKE(s->binding[i], 0, 255, 0);
+    for (int i = 0; i < 2; i++) TAKE(s->override[i], 0, 256, 1);
+    for (int i = 0; i < 2; i++) TAKE(s->start_duty[i], 0, 256, 0);
+    for (int i = 0; i < 2; i++) TAKE(s->start_count[i], 0, 255, 0);
+#undef TAKE
+    for (int i = 0; i < 12; i++) bad |= s->duty[i] > s->duty[i + 1];
+    return bad ? 1 : 0;
+}
+
+static char out[1 << 14];
+static int waiting;
+
+static void flush_out(void)
+{
+    for (int done = 0; done < waiting;) {
+        ssize_t n = write(1, out + done, waiting - done);
+        if (n <= 0) _exit(0);
+        done += n;
+    }
+    waiting = 0;
+}
+
+static void put_char(char b) { out[waiting++] = b; }
+
+static void put_number(unsigned long n)
+{
+    char d[20];
+    int k = 0;
+    do d[k++] = '0' + n % 10;
+    while (n /= 10);
+    put_char('\t');
+    while (k) put_char(d[--k]);
+}
+
+// takes a line and prints its answer, or gives its refusal
+static int take_line(struct chip *c, int *begun, const unsigned char *line, int len)
+{
+    struct part f[62];
+    int fields = 0, from = 0, a, r, b, i, v;
+    if (len > 512) return 4;
+    for (int at = 0; at <= len; at++)
+        if (at == len || line[at] == '\t') {
+            if (fields < 62) f[fields] = (struct part){line + from, at - from};
+            fields++;
+            from = at + 1;
+        }
+    if (f[0].len != 1) return 4;
+    switch (f[0].at[0]) {
+    case 'S': {
+        struct setup s;
+        int refusal = fields == 60 ? parse_setup(f, &s) : 4;
+        if (refusal == 4) return 4;
+        if (*begun) return 3;
+        if (refusal) return refusal;
+        power_on(c, &s);
+        break;
+    }
+    case 'T': case 'V': case 'F': case 'H':
+        if (fields != 3 || (i = decimal(f[1])) == WRONG || (v = decimal(f[2])) == WRONG) return 4;
+        if (f[0].at[0] == 'T') {
+            if (!within(i, 1, 5) || !(v == DASH || within(v, -254, 255))) return 2;
+            take_temperature(c, i - 1, v);
+        } else if (f[0].at[0] == 'V') {
+            if (!within(i, 1, 16) || !(v == DASH || within(v, 0, 255))) return 2;
+            take_volt(c, i - 1, v);
+        } else if (f[0].at[0] == 'F') {
+            if (!within(i, 1, 4) || !(v == DASH || within(v, 0, 16383))) return 2;
+            take_fan(c, i - 1, v);
+        } else {
+            if (!within(i, 1, 4) || !within(v, 0, 1)) return 2;
+            c->hot[i - 1] = v;
+        }
+        break;
+    case 'A':
+        if (fields != 2 || (v = decimal(f[1])) == WRONG) return 4;
+        if (!within(v, 0, 2)) return 2;
+        c->level = v;
+        break;
+    case 'K':
+        if (fields != 1) return 4;
+        {
+            int output[2];
+            tick(c, output);
+            put_char('K');
+            put_number(!(c->reg[0xE3] & 0x04) && errors(c) > 0);
+            put_number(c->duty[0]);
+            put_number(c->duty[1]);
+            put_number(output[0]);
+            put_number(output[1]);
+            put_number(errors(c));
+            put_char('\n');
+        }
+        break;
+    case 'X':
+        if (fields != 1) return 4;
+        reset_pin(c);
+        break;
+    case 'W':
+        if (fields != 4 || (a = hex_byte(f[1])) == WRONG || (r = hex_byte(f[2])) == WRONG || (b = hex_byte(f[3])) == WRONG) return 4;
+        if (a > 0x7F) return 2;
+        v = transact(c, a);
+        if (v) write_register(c, r, b);
+        put_char('W');
+        put_number(v);
+        put_char('\n');
+        break;
+    case 'R':
+        if (fields != 3 || (a = hex_byte(f[1])) == WRONG || (r = hex_byte(f[2])) == WRONG) return 4;
+        if (a > 0x7F) return 2;
+        v = transact(c, a);
+        put_char('R');
+        put_number(v);
+        put_char('\t');
+        b = v ? read_register(c, r) : 0;
+        put_char(v ? "0123456789ABCDEF"[b >> 4] : '-');
+        put_char(v ? "0123456789ABCDEF"[b & 15] : '-');
+        put_char('\n');
+        break;
+    default:
+        return 4;
+    }
+    *begun = 1;
+    return 0;
+}
+
+static void give(struct chip *c, int *begun, const unsigned char *line, int len, unsigned long number)
+{
+    if (waiting > (int)sizeof out - 256) flush_out();
+    int refusal = take_line(c, begun, line, len);
+    if (refusal) {
+        put_char('E');
+        put_number(number);
+        put_number(refusal);
+        put_char('\n');
+    }
+}
+
+int main(void)
+{
+    static unsigned char in[1 << 14], kept[513];
+    static struct chip c;
+    int have = 0, begun = 0;
+    unsigned long number = 1;
+    fill_map();
+    power_on(&c, plain_setup());
+    memcpy(out, "bench\t1\n", 8);
+    waiting = 8;
+    for (;;) {
+        flush_out();
+        ssize_t n = read(0, in, sizeof in);
+        if (n <= 0) break;
+        for (ssize_t i = 0; i < n;) {
+            unsigned char *feed = memchr(in + i, '\n', n - i);
+            ssize_t end = feed ? feed - in : n;
+            if (feed && have == 0) {
+                give(&c, &begun, in + i, end - i > 513 ? 513 : end - i, number++);
+            } else {
+                ssize_t room = 513 - have, add = end - i < room ? end - i : room;
+                memcpy(kept + have, in + i, add);
+                have += add;
+                if (feed) {
+                    give(&c, &begun, kept, have, number++);
+                    have = 0;
+                }
+            }
+            i = end + 1;
+        }
+    }
+    if (have) give(&c, &begun, kept, have, number);
+    flush_out();
+    return 0;
+}
