@@ -16,24 +16,24 @@ use Rattle.theorems.specs.Beside.{cooler-self}
 use Rattle.theorems.specs.Steps.{NotRefused, Rises, steps-rise}
 
 -- what alike events keep of two chips: the setup is taken, the first chip is no hotter, and the lists have their lengths
-record Pair (c d : Chip) : Type 0 where
+pub record Pair (c d : Chip) : Type 0 where
   valid : Valid (c .setup)
   cooler : Cooler c d
   first : Sized c
   second : Sized d
 
 -- at power-on
-power-pair : (s : Setup) → Valid s → Pair (powerOn s) (powerOn s)
+pub power-pair : (s : Setup) → Valid s → Pair (powerOn s) (powerOn s)
 unfolding powerOn
 power-pair s v = record { valid = v; cooler = cooler-self _; first = power-sized s; second = power-sized s }
 
 module _ {c d : Chip} {e f : Event} (p : Pair c d) (a : Alike e f) (t : NotRefused c e) (u : NotRefused d f) where
   -- the events keep the order
-  step : Rises (steppedChip c e) (steppedChip d f)
+  pub step : Rises (steppedChip c e) (steppedChip d f)
   step = steps-rise (p .valid) (p .first .zones ∙ sym (p .second .zones)) (p .cooler) a t u
 
   -- after two alike events
-  next : Pair (steppedChip c e .chip) (steppedChip d f .chip)
+  pub next : Pair (steppedChip c e .chip) (steppedChip d f .chip)
   next = record {
     valid = rw (setup-kept c e) (p .valid);
     cooler = step .chips;

@@ -1,0 +1,305 @@
+-- Document 01, "What counts as done": of each public function, any two results that keep its promise are the same. Assumes nothing.
+-- No promise is copied here: `Learnt` in a function's `Reads` is what the function's `ensures` in src/lib.rt tells a caller, and is made from it.
+-- Each public function of the libraries has its statement under its own name, and one law, `determined`, proves them all.
+use mathlib.Core.Path.{_≡_, sym, _∙_}
+use denote.Ref.{now}
+use Rattle.map.proofs.default_of.Reads.{Learnt as default-of-promise}
+use Rattle.map.proofs.writable_of.Reads.{Learnt as writable-of-promise}
+use Rattle.map.proofs.lock_marked.Reads.{Learnt as lock-marked-promise}
+use Rattle.map.proofs.home_of.Reads.{Learnt as home-of-promise}
+use Rattle.map.proofs.is_set.Reads.{Learnt as is-set-promise}
+use Rattle.map.proofs.kind_of.Reads.{Learnt as kind-of-promise}
+use Rattle.map.proofs.slave_address.Reads.{Learnt as slave-address-promise}
+use Rattle.temperature.proofs.whole_byte.Reads.{Learnt as whole-byte-promise}
+use Rattle.temperature.proofs.half_set.Reads.{Learnt as half-set-promise}
+use Rattle.temperature.proofs.from_byte.Reads.{Learnt as from-byte-promise}
+use Rattle.temperature.proofs.from_count.Reads.{Learnt as from-count-promise}
+use Rattle.temperature.proofs.with_half.Reads.{Learnt as with-half-promise}
+use Rattle.temperature.proofs.hotter.Reads.{Learnt as hotter-promise}
+use Rattle.state.proofs.default_setup.Reads.{Learnt as default-setup-promise}
+use Rattle.state.proofs.power_on.Reads.{Learnt as power-on-promise}
+use Rattle.state.proofs.zone_at.Reads.{Learnt as zone-at-promise}
+use Rattle.state.proofs.volt_at.Reads.{Learnt as volt-at-promise}
+use Rattle.state.proofs.fan_at.Reads.{Learnt as fan-at-promise}
+use Rattle.state.proofs.with_zone.Reads.{Learnt as with-zone-promise}
+use Rattle.state.proofs.with_volt.Reads.{Learnt as with-volt-promise}
+use Rattle.state.proofs.with_fan.Reads.{Learnt as with-fan-promise}
+use Rattle.sense.proofs.mark_missing.Reads.{Learnt as mark-missing-promise}
+use Rattle.sense.proofs.errors_standing.Reads.{Learnt as errors-standing-promise}
+use Rattle.sense.proofs.alert_active.Reads.{Learnt as alert-active-promise}
+use Rattle.sense.proofs.take_temperature.Reads.{Learnt as take-temperature-promise}
+use Rattle.sense.proofs.take_voltage.Reads.{Learnt as take-voltage-promise}
+use Rattle.sense.proofs.take_fan.Reads.{Learnt as take-fan-promise}
+use Rattle.sense.proofs.take_hot.Reads.{Learnt as take-hot-promise}
+use Rattle.sense.proofs.take_pin.Reads.{Learnt as take-pin-promise}
+use Rattle.sense.proofs.take_reset.Reads.{Learnt as take-reset-promise}
+use Rattle.bus.proofs.write_register.Reads.{Learnt as write-register-promise}
+use Rattle.bus.proofs.write_byte.Reads.{Learnt as write-byte-promise}
+use Rattle.bus.proofs.show_register.Reads.{Learnt as show-register-promise}
+use Rattle.bus.proofs.read_byte.Reads.{Learnt as read-byte-promise}
+use Rattle.bus.proofs.dump.Reads.{Learnt as dump-promise}
+use Rattle.drive.proofs.followed_zone.Reads.{Learnt as followed-zone-promise}
+use Rattle.drive.proofs.table_of.Reads.{Learnt as table-of-promise}
+use Rattle.drive.proofs.new_step.Reads.{Learnt as new-step-promise}
+use Rattle.drive.proofs.asked_duty.Reads.{Learnt as asked-duty-promise}
+use Rattle.drive.proofs.is_boosted.Reads.{Learnt as is-boosted-promise}
+use Rattle.drive.proofs.boost_enabled.Reads.{Learnt as boost-enabled-promise}
+use Rattle.drive.proofs.delay_of.Reads.{Learnt as delay-of-promise}
+use Rattle.drive.proofs.ramped_on.Reads.{Learnt as ramped-on-promise}
+use Rattle.drive.proofs.fan_duty.Reads.{Learnt as fan-duty-promise}
+use Rattle.drive.proofs.kicked_fan.Reads.{Learnt as kicked-fan-promise}
+use Rattle.drive.proofs.tick.Reads.{Learnt as tick-promise}
+use Rattle.event.proofs.step.Reads.{Learnt as step-promise}
+use Rattle.text.proofs.width.Reads.{Learnt as width-promise}
+use Rattle.text.proofs.count_fields.Reads.{Learnt as count-fields-promise}
+use Rattle.text.proofs.field.Reads.{Learnt as field-promise}
+use Rattle.text.proofs.decimal.Reads.{Learnt as decimal-promise}
+use Rattle.text.proofs.is_spelt.Reads.{Learnt as is-spelt-promise}
+use Rattle.text.proofs.hex_byte.Reads.{Learnt as hex-byte-promise}
+use Rattle.text.proofs.write_ack.Reads.{Learnt as write-ack-promise}
+use Rattle.text.proofs.write_shown.Reads.{Learnt as write-shown-promise}
+use Rattle.text.proofs.write_not_shown.Reads.{Learnt as write-not-shown-promise}
+use Rattle.text.proofs.write_tick.Reads.{Learnt as write-tick-promise}
+use Rattle.text.proofs.write_refusal.Reads.{Learnt as write-refusal-promise}
+use Rattle.parse.proofs.letter_of.Reads.{Learnt as letter-of-promise}
+use Rattle.parse.proofs.event_of.Reads.{Learnt as event-of-promise}
+use Rattle.settings.proofs.settings_of.Reads.{Learnt as settings-of-promise}
+use Rattle.line.proofs.start.Reads.{Learnt as start-promise}
+use Rattle.line.proofs.take_line.Reads.{Learnt as take-line-promise}
+
+-- a promise speaks of the lifetimes κs, the parameters a, the result r, and e, the parameters as the call leaves them. It determines what
+-- is seen of r and e: any two that keep it show the same
+module _ {K : Type 0} {A R E S : K → Type 0} (promise : (κs : K) → A κs → R κs → E κs → Type 0) (seen : (κs : K) → R κs → E κs → S κs) where
+  abbrev pub Determines : Type 0
+  Determines = (κs : K) (a : A κs) (r r' : R κs) (e e' : E κs) → promise κs a r e → promise κs a r' e' → seen κs r e ≡ seen κs r' e'
+
+module _ {K : Type 0} {A R E : K → Type 0} (promise : (κs : K) → A κs → R κs → E κs → Type 0) where
+  -- the result. A chip is passed and answered by value, so the later chip is in the result
+  abbrev pub Result : Type 0
+  Result = Determines promise (λ κs r e. r)
+
+  -- the result, and what is left in a buffer that was lent to be written
+  abbrev pub ResultAnd : {B : Type 0} → ((κs : K) → E κs → B) → Type 0
+  ResultAnd {B} left = Determines {S = λ κs. R κs × B} promise (λ κs r e. (r, left κs e))
+
+-- the law: a promise that says what is seen determines it
+pub determined : {K : Type 0} {A R E S : K → Type 0} {promise : (κs : K) → A κs → R κs → E κs → Type 0} {seen : (κs : K) → R κs → E κs → S κs} {said : (κs : K) → A κs → S κs}
+    → ((κs : K) (a : A κs) (r : R κs) (e : E κs) → promise κs a r e → seen κs r e ≡ said κs a) → Determines promise seen
+determined says κs a r r' e e' p p' = says κs a r e p ∙ sym (says κs a r' e' p')
+
+-- an equation of the result and one of the buffer say the pair
+both : {X Y : Type 0} {x x' : X} {y y' : Y} → (x ≡ x') × (y ≡ y') → _≡_ {A = X × Y} (x, y) (x', y')
+both p i = (p .0 i, p .1 i)
+
+-- ---- map: the register map
+
+pub default-of : Result default-of-promise
+default-of = determined (λ κs a r e p. p)
+
+pub writable-of : Result writable-of-promise
+writable-of = determined (λ κs a r e p. p)
+
+pub lock-marked : Result lock-marked-promise
+lock-marked = determined (λ κs a r e p. p)
+
+pub home-of : Result home-of-promise
+home-of = determined (λ κs a r e p. p)
+
+pub is-set : Result is-set-promise
+is-set = determined (λ κs a r e p. p)
+
+pub kind-of : Result kind-of-promise
+kind-of = determined (λ κs a r e p. p)
+
+pub slave-address : Result slave-address-promise
+slave-address = determined (λ κs a r e p. p)
+
+-- ---- temperature: temperatures
+
+pub whole-byte : Result whole-byte-promise
+whole-byte = determined (λ κs a r e p. p)
+
+pub half-set : Result half-set-promise
+half-set = determined (λ κs a r e p. p)
+
+pub from-byte : Result from-byte-promise
+from-byte = determined (λ κs a r e p. p)
+
+pub from-count : Result from-count-promise
+from-count = determined (λ κs a r e p. p)
+
+pub with-half : Result with-half-promise
+with-half = determined (λ κs a r e p. p)
+
+pub hotter : Result hotter-promise
+hotter = determined (λ κs a r e p. p)
+
+-- ---- state: the chip's state
+
+pub default-setup : Result default-setup-promise
+default-setup = determined (λ κs a r e p. p)
+
+pub power-on : Result power-on-promise
+power-on = determined (λ κs a r e p. p)
+
+pub zone-at : Result zone-at-promise
+zone-at = determined (λ κs a r e p. p)
+
+pub volt-at : Result volt-at-promise
+volt-at = determined (λ κs a r e p. p)
+
+pub fan-at : Result fan-at-promise
+fan-at = determined (λ κs a r e p. p)
+
+pub with-zone : Result with-zone-promise
+with-zone = determined (λ κs a r e p. p)
+
+pub with-volt : Result with-volt-promise
+with-volt = determined (λ κs a r e p. p)
+
+pub with-fan : Result with-fan-promise
+with-fan = determined (λ κs a r e p. p)
+
+-- ---- sense: readings, errors and ALERT
+
+pub mark-missing : Result mark-missing-promise
+mark-missing = determined (λ κs a r e p. p)
+
+pub errors-standing : Result errors-standing-promise
+errors-standing = determined (λ κs a r e p. p)
+
+pub alert-active : Result alert-active-promise
+alert-active = determined (λ κs a r e p. p)
+
+pub take-temperature : Result take-temperature-promise
+take-temperature = determined (λ κs a r e p. p)
+
+pub take-voltage : Result take-voltage-promise
+take-voltage = determined (λ κs a r e p. p)
+
+pub take-fan : Result take-fan-promise
+take-fan = determined (λ κs a r e p. p)
+
+pub take-hot : Result take-hot-promise
+take-hot = determined (λ κs a r e p. p)
+
+pub take-pin : Result take-pin-promise
+take-pin = determined (λ κs a r e p. p)
+
+pub take-reset : Result take-reset-promise
+take-reset = determined (λ κs a r e p. p)
+
+-- ---- bus: bus answers, and the register dump
+
+pub write-register : Result write-register-promise
+write-register = determined (λ κs a r e p. p)
+
+pub write-byte : Result write-byte-promise
+write-byte = determined (λ κs a r e p. p)
+
+pub show-register : Result show-register-promise
+show-register = determined (λ κs a r e p. p)
+
+pub read-byte : Result read-byte-promise
+read-byte = determined (λ κs a r e p. p)
+
+pub dump : ResultAnd dump-promise (λ κs e. now (e .1 .0))
+dump = determined (λ κs a r e p. both p)
+
+-- ---- drive: fan duties
+
+pub followed-zone : Result followed-zone-promise
+followed-zone = determined (λ κs a r e p. p)
+
+pub table-of : Result table-of-promise
+table-of = determined (λ κs a r e p. p)
+
+pub new-step : Result new-step-promise
+new-step = determined (λ κs a r e p. p)
+
+pub asked-duty : Result asked-duty-promise
+asked-duty = determined (λ κs a r e p. p)
+
+pub is-boosted : Result is-boosted-promise
+is-boosted = determined (λ κs a r e p. p)
+
+pub boost-enabled : Result boost-enabled-promise
+boost-enabled = determined (λ κs a r e p. p)
+
+pub delay-of : Result delay-of-promise
+delay-of = determined (λ κs a r e p. p)
+
+pub ramped-on : Result ramped-on-promise
+ramped-on = determined (λ κs a r e p. p)
+
+pub fan-duty : Result fan-duty-promise
+fan-duty = determined (λ κs a r e p. p)
+
+pub kicked-fan : Result kicked-fan-promise
+kicked-fan = determined (λ κs a r e p. p)
+
+pub tick : Result tick-promise
+tick = determined (λ κs a r e p. p)
+
+-- ---- event: events
+
+pub step : Result step-promise
+step = determined (λ κs a r e p. p)
+
+-- ---- text: fields, decimals, bus fields, and answers written into a lent buffer
+
+-- its promise has two parts, and the second is the equation
+pub width : Result width-promise
+width = determined (λ κs a r e p. p .1)
+
+pub count-fields : Result count-fields-promise
+count-fields = determined (λ κs a r e p. p)
+
+-- it answers a part of the line that it was lent: the bytes are determined, and of where they lie the promise says nothing
+pub field : Determines field-promise (λ κs r e. now r)
+field = determined (λ κs a r e p. p)
+
+pub decimal : Result decimal-promise
+decimal = determined (λ κs a r e p. p)
+
+pub is-spelt : Result is-spelt-promise
+is-spelt = determined (λ κs a r e p. p)
+
+pub hex-byte : Result hex-byte-promise
+hex-byte = determined (λ κs a r e p. p)
+
+pub write-ack : ResultAnd write-ack-promise (λ κs e. now (e .0))
+write-ack = determined (λ κs a r e p. both p)
+
+pub write-shown : ResultAnd write-shown-promise (λ κs e. now (e .0))
+write-shown = determined (λ κs a r e p. both p)
+
+pub write-not-shown : ResultAnd write-not-shown-promise (λ κs e. now (e .0))
+write-not-shown = determined (λ κs a r e p. both p)
+
+pub write-tick : ResultAnd write-tick-promise (λ κs e. now (e .0))
+write-tick = determined (λ κs a r e p. both p)
+
+pub write-refusal : ResultAnd write-refusal-promise (λ κs e. now (e .0))
+write-refusal = determined (λ κs a r e p. both p)
+
+-- ---- parse: events as lines
+
+pub letter-of : Result letter-of-promise
+letter-of = determined (λ κs a r e p. p)
+
+pub event-of : Result event-of-promise
+event-of = determined (λ κs a r e p. p)
+
+-- ---- settings: the setup as a line
+
+pub settings-of : Result settings-of-promise
+settings-of = determined (λ κs a r e p. p)
+
+-- ---- line: lines and refusals
+
+pub start : Result start-promise
+start = determined (λ κs a r e p. p)
+
+pub take-line : ResultAnd take-line-promise (λ κs e. now (e .1 .1 .0))
+take-line = determined (λ κs a r e p. both p)

@@ -1,0 +1,116 @@
+-- Document 01's cases, in one list under one statement, in 01's order and each under 01's words, over the definitions that the code is
+-- proved to meet. negsuc n is -(n + 1). Zones, channels and fans count from 0. Assumes nothing.
+use mathlib.Core.Path.{_≡_, refl}
+use mathlib.Core.Bool.{true}
+use Prim.Native.Nat.{ℕ}
+use lib.IntN.{pos, negsuc}
+use Rattle.map.specs.Tables.{defaults}
+use Rattle.temperature.specs.declared.Reading.the-variants as reading
+use Rattle.temperature.specs.Temperature.{wholeByte, halfSet, readingOf, hotterOf}
+use Rattle.temperature.specs.Cases as temperature
+use Rattle.state.specs.declared.Chip.{Chip}
+use Rattle.state.specs.declared.Count.the-variants.{Taken}
+use Rattle.state.specs.Parts.{registerAt, zoneAt}
+use Rattle.state.specs.With.{withRegister, withZone}
+use Rattle.state.specs.PowerOn.{defaultSetup, powerOn, atRest}
+use Rattle.sense.specs.Errors.{fanLimit, fanLimitAt}
+use Rattle.sense.specs.Missing.{missed}
+use Rattle.sense.specs.Standing.{errorsStanding}
+use Rattle.sense.specs.Events.{tookVoltage, tookPin, resetFile, tookReset}
+use Rattle.sense.specs.Cases as sense
+use Rattle.bus.specs.declared.Shown.the-variants.{Byte}
+use Rattle.bus.specs.Write.{wroteRegister}
+use Rattle.bus.specs.Read.{readByte}
+use Rattle.bus.specs.Cases as bus
+use Rattle.drive.specs.Tables.{tableOf, newStep}
+use Rattle.drive.specs.Cases as drive
+use Rattle.event.specs.Run.{answersTo}
+use Rattle.event.specs.Session.{session, answers, session-answers}
+use Rattle.line.specs.Line.{startSession}
+use Rattle.line.specs.Session.{printedFrom}
+use Rattle.determined.specs.Printed.{input, output, printed}
+
+-- the chip at power-on without a setup, and with a byte stored at an address
+abbrev pub fresh : Chip
+fresh = powerOn defaultSetup
+
+abbrev pub freshWith : ℕ → ℕ → Chip
+freshWith a byte = withRegister fresh a byte
+
+-- the errors standing after a count of channel 7, whose limits at 9Ch and 9Dh are 80 and 100
+abbrev pub sevenAt : ℕ → ℕ
+sevenAt n = errorsStanding (tookVoltage (withRegister (freshWith 0x9C 80) 0x9D 100) 6 (Taken n) .registers)
+
+-- the chip after a count of channel 11, which feeds zone 3 while INT_AD11 is set in 31h
+abbrev pub eleven : ℕ → Chip → Chip
+eleven n c = tookVoltage c 10 (Taken n)
+
+pub record Cases : Type 0 where
+  -- ---- "Lines and refusals"
+  -- "Input .. Output, whole": the bytes of the twelve lines, and those that they print behind the header
+  pub lines : printedFrom startSession 1 input ≡ output
+  -- the same as events and their answers
+  pub events : answersTo fresh session ≡ answers
+  -- ---- "Proved cases"
+  -- "h = -1 gives FFh, half set"
+  pub minus-one : (wholeByte (reading.Taken (negsuc 0)) ≡ 0xFF) × (halfSet (reading.Taken (negsuc 0)) ≡ true)
+  -- "-254 gives 81h"
+  pub lowest : wholeByte (reading.Taken (negsuc 253)) ≡ 0x81
+  -- "255 gives 7Fh, half set"
+  pub highest : (wholeByte (reading.Taken (pos 255)) ≡ 0x7F) × (halfSet (reading.Taken (pos 255)) ≡ true)
+  -- "AD_IN11 of 0 missing": behind a taken count
+  pub eleven-none : zoneAt (eleven 0 (eleven 1 (freshWith 0x31 0x01))) 4 ≡ reading.Missing
+  -- "1 gives 81h"
+  pub eleven-one : wholeByte (zoneAt (eleven 1 (freshWith 0x31 0x01)) 4) ≡ 0x81
+  -- "channel 7 limits 80 and 100: 79 and 101 are errors, 80 and 100 not"
+  pub channel-seven : (sevenAt 79 ≡ 1) × (sevenAt 101 ≡ 1) × (sevenAt 80 ≡ 0) × (sevenAt 100 ≡ 0)
+  -- "fan limit 3FFFh with a missing count, no error": at a tick from power-on
+  pub fan-unwatched : (fanLimitAt (fresh .registers) 0 ≡ 0x3FFF) × (errorsStanding (missed fresh .registers) ≡ 0)
+  -- "step from 12 at h = 70 is 3"
+  pub step-from-twelve : newStep (tableOf defaultSetup 0x00 0) 12 (reading.Taken (pos 70)) ≡ 3
+  -- "from 0 it is 2"
+  pub step-from-none : newStep (tableOf defaultSetup 0x00 0) 0 (reading.Taken (pos 70)) ≡ 2
+  -- ---- "Easy to get wrong"
+  -- "Taking 80h as -128 degrees and slowing the fan"
+  pub missing-mark : readingOf 0x80 ≡ reading.Missing
+  -- "Keeping the old half bit when the whole byte is written": zone 3 at 33 half degrees, 31h with INT_WR_E
+  pub half-cleared : zoneAt (wroteRegister (withZone (freshWith 0x31 0x10) 4 (reading.Taken (pos 33))) 0x52 0x20) 4 ≡ reading.Taken (pos 64)
+  -- "Comparing temperature bytes without their sign"
+  pub signed : hotterOf (reading.Taken (negsuc 0)) (reading.Taken (pos 0)) ≡ reading.Taken (pos 0)
+  -- "Letting X clear error bits": fan 1's, with the limit's high byte 80h, missing at a tick
+  pub reset-keeps : errorsStanding (tookReset (missed (freshWith 0xB5 0x80)) .registers) ≡ 1
+  -- "or restore limits"
+  pub limit-kept : registerAt (tookReset (freshWith 0x9C 80)) 0x9C ≡ 80
+  -- "after R 2F 00 and A 1, R 2C 00 is still acknowledged"
+  pub latched : readByte (tookPin (readByte fresh 0x2F 0x00 .chip) 1) 0x2C 0x00 .shown ≡ Byte 0x00
+
+-- two facts that stand in no other crate
+fan-limit : fanLimitAt (fresh .registers) 0 ≡ 0x3FFF
+unfolding fanLimitAt fanLimit powerOn atRest defaultSetup defaults
+fan-limit = refl
+
+limit : registerAt (tookReset (freshWith 0x9C 80)) 0x9C ≡ 80
+unfolding tookReset resetFile registerAt withRegister powerOn atRest defaultSetup defaults
+limit = refl
+
+pub all : Cases
+unfolding sense.errorsAt sense.limited sense.sourced bus.written bus.zoneThree tookPin
+all = record {
+  lines = printed;
+  events = session-answers;
+  minus-one = (temperature.cases .0, temperature.cases .1);
+  lowest = temperature.cases .2;
+  highest = (temperature.cases .4, temperature.cases .5);
+  eleven-none = sense.fed .1;
+  eleven-one = sense.fed .0;
+  channel-seven = (sense.channel-seven .0, sense.channel-seven .3, sense.channel-seven .1, sense.channel-seven .2);
+  fan-unwatched = (fan-limit, sense.missing-fan .0);
+  step-from-twelve = drive.steps .0;
+  step-from-none = drive.steps .1;
+  missing-mark = temperature.cases .9;
+  half-cleared = bus.zone-writes .1;
+  signed = temperature.cases .12;
+  reset-keeps = sense.missing-fan .6;
+  limit-kept = limit;
+  latched = bus.latch .0;
+}

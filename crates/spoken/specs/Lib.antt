@@ -1,0 +1,4 @@
+pub mod Lines
+pub mod TakenLine
+pub mod HotterLines
+pub mod Cases
