@@ -1,0 +1,2 @@
+-- What the proofs of the port cite.
+pub mod Part
