@@ -3,6 +3,7 @@ ghost use Prim.Native.Nat.{_≤_};
 ghost use lib.ListN.{length};
 use libc::STDIN_FILENO;
 use libc::STDOUT_FILENO;
+use line::Reply;
 use line::Session;
 
 // Buffers: what is read at once, what is written at once, and a line that came in several reads. Of a line of more than 512 bytes the first
@@ -18,13 +19,18 @@ const ROOM: usize = 128;
 
 const LINE_FEED: u8 = 10;
 
-// The chip, the number of the next line, how many of its bytes are kept, how many bytes wait to be written, and whether they can be.
-struct Bench {
-    session: Session,
+// The number of the next line, how many of its bytes are kept, how many bytes wait to be written, and whether they can be.
+struct Desk {
     number: u64,
     kept: usize,
     waiting: usize,
     open: bool,
+}
+
+// The chip, and what is on the desk beside it.
+struct Bench {
+    session: Session,
+    desk: Desk,
 }
 
 fn smaller(a: usize, b: usize) -> usize
@@ -34,9 +40,9 @@ fn smaller(a: usize, b: usize) -> usize
 }
 
 // Writes what waits.
-fn flush(bench: Bench, out: &[u8]) -> Bench {
-    let n = smaller(bench.waiting, out.len());
-    let mut next = bench;
+fn flush(desk: Desk, out: &[u8]) -> Desk {
+    let n = smaller(desk.waiting, out.len());
+    let mut next = desk;
     next.waiting = 0;
     if n > 0 {
         next.open = io::write_all(STDOUT_FILENO, &out[..n]);
@@ -45,12 +51,12 @@ fn flush(bench: Bench, out: &[u8]) -> Bench {
 }
 
 // Writes what waits where another line's print might not fit behind it.
-fn make_room(bench: Bench, out: &[u8]) -> Bench {
-    let n = smaller(bench.waiting, out.len());
+fn make_room(desk: Desk, out: &[u8]) -> Desk {
+    let n = smaller(desk.waiting, out.len());
     if ROOM <= out.len() - n {
-        return bench;
+        return desk;
     }
-    flush(bench, out)
+    flush(desk, out)
 }
 
 // The number of the line behind.
@@ -74,22 +80,15 @@ fn put_refusal(out: &mut [u8], at: usize, number: u64, refusal: u8) -> usize {
     end_in(out.len(), start, length)
 }
 
-// Gives a whole line to the chip. What it prints waits to be written.
-fn give(bench: Bench, line: &[u8], out: &mut [u8]) -> Bench {
-    let ready = make_room(bench, out);
-    let at = smaller(ready.waiting, out.len());
-    let session = ready.session;
-    let taken = line::take_line(session, line, &mut out[at..]);
-    let reply = taken.reply;
+// The desk after a line whose answer was written from here on: its print waits, and the next line has not begun.
+fn after_line(desk: Desk, reply: Reply, out: &mut [u8], at: usize) -> Desk {
     let end = end_in(out.len(), at, reply.length);
-    let waiting = put_refusal(out, end, ready.number, reply.refusal);
-    let after = taken.session;
-    Bench {
-        session: after,
-        number: next_number(ready.number),
+    let waiting = put_refusal(out, end, desk.number, reply.refusal);
+    Desk {
+        number: next_number(desk.number),
         kept: 0,
         waiting: waiting,
-        open: ready.open,
+        open: desk.open,
     }
 }
 
@@ -110,15 +109,6 @@ fn keep(line: &mut [u8], kept: usize, part: &[u8]) -> usize
     n
 }
 
-// Gives the chip a line of which the last part has come.
-fn end_line(bench: Bench, part: &[u8], line: &mut [u8], out: &mut [u8]) -> Bench {
-    if bench.kept == 0 {
-        return give(bench, part, out);
-    }
-    let n = keep(line, bench.kept, part);
-    give(bench, &line[..n], out)
-}
-
 // How many bytes stand before the first line feed.
 fn line_width(s: &[u8]) -> usize
     ensures { λ r. ⌜ r ≤ length (now (s .entry)) ⌝ }
@@ -133,50 +123,90 @@ fn line_width(s: &[u8]) -> usize
     i
 }
 
-// Takes what one read brought.
+// Puts the last part of a line behind what is kept of it, and answers how many bytes are kept then: none of a line that came at once.
+fn join(line: &mut [u8], kept: usize, part: &[u8]) -> usize
+    ensures { λ r. ⌜ r ≤ length (now (line .exit)) ⌝ }
+{
+    if kept == 0 {
+        return 0;
+    }
+    keep(line, kept, part)
+}
+
+// The line that was put together, or the part that is a line by itself.
+fn whole<'a>(kept: &'a [u8], part: &'a [u8]) -> &'a [u8] {
+    if kept.len() == 0 {
+        return part;
+    }
+    kept
+}
+
+// Takes what one read brought. A line that came at once is given to the chip where it stands. What `line::take_line` does with a line is done
+// here in its two parts, so that the chip is not handed on before the line has been read.
 fn take_block(start: Bench, block: &[u8], line: &mut [u8], out: &mut [u8]) -> Bench {
-    let mut bench = start;
+    let mut session = start.session;
+    let mut desk = start.desk;
     let mut i = 0;
     while i < block.len() {
         let e = i + line_width(&block[i..]);
         if e < block.len() {
-            bench = end_line(bench, &block[i..e], line, out);
+            let n = join(line, desk.kept, &block[i..e]);
+            let text = whole(&line[..n], &block[i..e]);
             i = e + 1;
+            desk = make_room(desk, out);
+            let at = smaller(desk.waiting, out.len());
+            let asked = line::ask(session.begun, out.len() - at, text);
+            if asked.setup {
+                let taken = line::take_setup(text, &mut out[at..]);
+                session = taken.session;
+                desk = after_line(desk, taken.reply, out, at);
+            } else {
+                let taken = line::take_asked(session, asked, &mut out[at..]);
+                session = taken.session;
+                desk = after_line(desk, taken.reply, out, at);
+            }
         } else {
-            bench.kept = keep(line, bench.kept, &block[i..e]);
+            desk.kept = keep(line, desk.kept, &block[i..e]);
             i = e;
         }
     }
-    bench
-}
-
-// Writes what waits, for the last time.
-fn shut(bench: Bench, out: &[u8]) -> Bench {
-    let mut last = flush(bench, out);
-    last.open = false;
-    last
-}
-
-// The end of the input: it ends a last line that lacks its line feed, and closes the bench.
-fn close(bench: Bench, line: &[u8], out: &mut [u8]) -> Bench {
-    let kept = smaller(bench.kept, line.len());
-    if kept == 0 {
-        return shut(bench, out);
+    Bench {
+        session: session,
+        desk: desk,
     }
-    let last = give(bench, &line[..kept], out);
-    shut(last, out)
+}
+
+// How many bytes of the input are to be taken: at its end a line feed, where a last line lacks its own.
+fn end_block(input: &mut [u8], got: usize, kept: usize) -> usize
+    requires { ⌜ got ≤ length (now input) ⌝ }
+    ensures { λ r. ⌜ r ≤ length (now (input .exit)) ⌝ }
+{
+    if got == 0 {
+        if kept > 0 {
+            if input.len() > 0 {
+                input[0] = LINE_FEED;
+                return 1;
+            }
+        }
+    }
+    got
 }
 
 // One read, and what came of it; before it, what waits is written.
 fn turn(start: Bench, input: &mut [u8], line: &mut [u8], out: &mut [u8]) -> Bench {
-    let bench = flush(start, out);
-    if bench.open {
+    let mut bench = start;
+    bench.desk = flush(start.desk, out);
+    let desk = bench.desk;
+    if desk.open {
         let got = libc::read(STDIN_FILENO, input);
         let n = io::count(got, input);
-        if n > 0 {
-            return take_block(bench, &input[..n], line, out);
+        let m = end_block(input, n, desk.kept);
+        bench = take_block(bench, &input[..m], line, out);
+        if n == 0 {
+            let mut last = flush(bench.desk, out);
+            last.open = false;
+            bench.desk = last;
         }
-        return close(bench, line, out);
     }
     bench
 }
@@ -187,7 +217,8 @@ fn run(start: Bench, input: &mut [u8], line: &mut [u8], out: &mut [u8]) {
     let mut turns = u64::MAX;
     while turns > 0 {
         bench = turn(bench, input, line, out);
-        if bench.open {
+        let desk = bench.desk;
+        if desk.open {
             turns -= 1;
         } else {
             return;
@@ -203,10 +234,12 @@ fn main() {
     let open = io::write_all(STDOUT_FILENO, b"bench\t1\n");
     let bench = Bench {
         session: session,
-        number: 1,
-        kept: 0,
-        waiting: 0,
-        open: open,
+        desk: Desk {
+            number: 1,
+            kept: 0,
+            waiting: 0,
+            open: open,
+        },
     };
     run(bench, &mut input, &mut line, &mut out);
 }

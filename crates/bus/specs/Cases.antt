@@ -1,10 +1,7 @@
 -- Worked cases of the bus, from document 01, computed on the definitions. Assumes nothing.
 use mathlib.Core.Path.{_≡_, refl}
-use mathlib.Core.Bool.{Bool, true, false}
 use Prim.Native.Nat.{ℕ}
 use lib.IntN.{pos, negsuc}
-use lib.ListN.{getD, set}
-use Rattle.laws.specs.Count.{oneIf}
 use Rattle.map.specs.Tables.{defaults, writables, lockMarks, homes}
 use Rattle.map.specs.Map.{writableOf, lockMarked, homeOf}
 use Rattle.map.specs.Bits.{isSet}
@@ -12,7 +9,7 @@ use Rattle.map.specs.Kind.{kindOf}
 use Rattle.map.specs.Slave.{slaveAddress}
 use Rattle.temperature.specs.declared.Reading.{Reading}
 use Rattle.temperature.specs.declared.Reading.the-variants as reading
-use Rattle.temperature.specs.Temperature.{byteOf, wholeOf, isOdd, wholeByte, halfSet, degreesOf, readingOf, withHalf}
+use Rattle.temperature.specs.Temperature.{wholeByte, halfSet, degreesOf, readingOf, withHalf}
 use Rattle.state.specs.declared.Chip.{Chip}
 use Rattle.state.specs.declared.Count.the-variants.{Taken, Missing}
 use Rattle.state.specs.Parts.{registerAt, zoneAt, voltAt, fanAt}
@@ -20,7 +17,7 @@ use Rattle.state.specs.With.{withPin, withRegister, withZone, withVolt, withFan
 use Rattle.state.specs.PowerOn.{defaultSetup, powerOn, atRest}
 use Rattle.bus.specs.declared.Shown.the-variants.{Byte, NoByte}
 use Rattle.bus.specs.Latch.{latchBy, latchAfter, isOurs, transacted}
-use Rattle.bus.specs.Write.{storedByte, stored, clearedByte, cleared, zoneWritable, wroteWhole, wroteHalf, wroteKind, isShut, wroteHome, wroteRegister, wroteByte}
+use Rattle.bus.specs.Write.{storedByte, stored, clearedByte, cleared, zoneWritable, wroteWhole, wroteHalf, wroteKind, isShut, wroteHome, wroteRegister}
 use Rattle.bus.specs.Read.{voltByte, fanWord, halfByte, shownKind, shownHome, shownRegister, readByte}
 
 abbrev pub fresh : Chip

@@ -1,5 +1,4 @@
 -- Document 01, "The register map" and "Bus answers": what byte reads show. Assumes nothing.
-use mathlib.Core.Bool.{Bool}
 use Prim.Native.Nat.{ℕ, _*_, _/_, _%_}
 use Rattle.laws.specs.Pick.{pick}
 use Rattle.map.specs.declared.Kind.{Kind}

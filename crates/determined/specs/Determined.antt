@@ -22,14 +22,15 @@ use Rattle.state.proofs.zone_at.Reads.{Learnt as zone-at-promise}
 use Rattle.state.proofs.volt_at.Reads.{Learnt as volt-at-promise}
 use Rattle.state.proofs.fan_at.Reads.{Learnt as fan-at-promise}
 use Rattle.state.proofs.with_zone.Reads.{Learnt as with-zone-promise}
-use Rattle.state.proofs.with_volt.Reads.{Learnt as with-volt-promise}
-use Rattle.state.proofs.with_fan.Reads.{Learnt as with-fan-promise}
 use Rattle.sense.proofs.mark_missing.Reads.{Learnt as mark-missing-promise}
 use Rattle.sense.proofs.errors_standing.Reads.{Learnt as errors-standing-promise}
 use Rattle.sense.proofs.alert_active.Reads.{Learnt as alert-active-promise}
-use Rattle.sense.proofs.take_temperature.Reads.{Learnt as take-temperature-promise}
-use Rattle.sense.proofs.take_voltage.Reads.{Learnt as take-voltage-promise}
-use Rattle.sense.proofs.take_fan.Reads.{Learnt as take-fan-promise}
+use Rattle.sense.proofs.compare_voltage.Reads.{Learnt as compare-voltage-promise}
+use Rattle.sense.proofs.compare_count.Reads.{Learnt as compare-count-promise}
+use Rattle.sense.proofs.hears_zone.Reads.{Learnt as hears-zone-promise}
+use Rattle.sense.proofs.volt_reading.Reads.{Learnt as volt-reading-promise}
+use Rattle.sense.proofs.feeds_three.Reads.{Learnt as feeds-three-promise}
+use Rattle.sense.proofs.feeds_four.Reads.{Learnt as feeds-four-promise}
 use Rattle.sense.proofs.take_hot.Reads.{Learnt as take-hot-promise}
 use Rattle.sense.proofs.take_pin.Reads.{Learnt as take-pin-promise}
 use Rattle.sense.proofs.take_reset.Reads.{Learnt as take-reset-promise}
@@ -49,6 +50,7 @@ use Rattle.drive.proofs.ramped_on.Reads.{Learnt as ramped-on-promise}
 use Rattle.drive.proofs.fan_duty.Reads.{Learnt as fan-duty-promise}
 use Rattle.drive.proofs.kicked_fan.Reads.{Learnt as kicked-fan-promise}
 use Rattle.drive.proofs.tick.Reads.{Learnt as tick-promise}
+use Rattle.event.proofs.refusal_of.Reads.{Learnt as refusal-of-promise}
 use Rattle.event.proofs.step.Reads.{Learnt as step-promise}
 use Rattle.text.proofs.width.Reads.{Learnt as width-promise}
 use Rattle.text.proofs.count_fields.Reads.{Learnt as count-fields-promise}
@@ -65,6 +67,9 @@ use Rattle.parse.proofs.letter_of.Reads.{Learnt as letter-of-promise}
 use Rattle.parse.proofs.event_of.Reads.{Learnt as event-of-promise}
 use Rattle.settings.proofs.settings_of.Reads.{Learnt as settings-of-promise}
 use Rattle.line.proofs.start.Reads.{Learnt as start-promise}
+use Rattle.line.proofs.ask.Reads.{Learnt as ask-promise}
+use Rattle.line.proofs.take_setup.Reads.{Learnt as take-setup-promise}
+use Rattle.line.proofs.take_asked.Reads.{Learnt as take-asked-promise}
 use Rattle.line.proofs.take_line.Reads.{Learnt as take-line-promise}
 
 -- a promise speaks of the lifetimes κs, the parameters a, the result r, and e, the parameters as the call leaves them. It determines what
@@ -81,6 +86,10 @@ module _ {K : Type 0} {A R E : K → Type 0} (promise : (κs : K) → A κs → 
   -- the result, and what is left in a buffer that was lent to be written
   abbrev pub ResultAnd : {B : Type 0} → ((κs : K) → E κs → B) → Type 0
   ResultAnd {B} left = Determines {S = λ κs. R κs × B} promise (λ κs r e. (r, left κs e))
+
+  -- what is left in a register file that was lent to be written, of a function that answers nothing
+  abbrev pub Left : {B : Type 0} → ((κs : K) → E κs → B) → Type 0
+  Left {B} left = Determines {S = λ κs. B} promise (λ κs r e. left κs e)
 
 -- the law: a promise that says what is seen determines it
 pub determined : {K : Type 0} {A R E S : K → Type 0} {promise : (κs : K) → A κs → R κs → E κs → Type 0} {seen : (κs : K) → R κs → E κs → S κs} {said : (κs : K) → A κs → S κs}
@@ -154,12 +163,6 @@ fan-at = determined (λ κs a r e p. p)
 pub with-zone : Result with-zone-promise
 with-zone = determined (λ κs a r e p. p)
 
-pub with-volt : Result with-volt-promise
-with-volt = determined (λ κs a r e p. p)
-
-pub with-fan : Result with-fan-promise
-with-fan = determined (λ κs a r e p. p)
-
 -- ---- sense: readings, errors and ALERT
 
 pub mark-missing : Result mark-missing-promise
@@ -171,14 +174,23 @@ errors-standing = determined (λ κs a r e p. p)
 pub alert-active : Result alert-active-promise
 alert-active = determined (λ κs a r e p. p)
 
-pub take-temperature : Result take-temperature-promise
-take-temperature = determined (λ κs a r e p. p)
+pub compare-voltage : Left compare-voltage-promise (λ κs e. now (e .0))
+compare-voltage = determined (λ κs a r e p. p)
 
-pub take-voltage : Result take-voltage-promise
-take-voltage = determined (λ κs a r e p. p)
+pub compare-count : Left compare-count-promise (λ κs e. now (e .0))
+compare-count = determined (λ κs a r e p. p)
 
-pub take-fan : Result take-fan-promise
-take-fan = determined (λ κs a r e p. p)
+pub hears-zone : Result hears-zone-promise
+hears-zone = determined (λ κs a r e p. p)
+
+pub volt-reading : Result volt-reading-promise
+volt-reading = determined (λ κs a r e p. p)
+
+pub feeds-three : Result feeds-three-promise
+feeds-three = determined (λ κs a r e p. p)
+
+pub feeds-four : Result feeds-four-promise
+feeds-four = determined (λ κs a r e p. p)
 
 pub take-hot : Result take-hot-promise
 take-hot = determined (λ κs a r e p. p)
@@ -243,6 +255,9 @@ tick = determined (λ κs a r e p. p)
 
 -- ---- event: events
 
+pub refusal-of : Result refusal-of-promise
+refusal-of = determined (λ κs a r e p. p)
+
 pub step : Result step-promise
 step = determined (λ κs a r e p. p)
 
@@ -300,6 +315,15 @@ settings-of = determined (λ κs a r e p. p)
 
 pub start : Result start-promise
 start = determined (λ κs a r e p. p)
+
+pub ask : Result ask-promise
+ask = determined (λ κs a r e p. p)
+
+pub take-setup : ResultAnd take-setup-promise (λ κs e. now (e .1 .0))
+take-setup = determined (λ κs a r e p. both p)
+
+pub take-asked : ResultAnd take-asked-promise (λ κs e. now (e .1 .1 .0))
+take-asked = determined (λ κs a r e p. both p)
 
 pub take-line : ResultAnd take-line-promise (λ κs e. now (e .1 .1 .0))
 take-line = determined (λ κs a r e p. both p)

@@ -1,17 +1,16 @@
 -- Worked cases of the stages, from document 01. negsuc n is -(n + 1). Assumes nothing.
 use mathlib.Core.Path.{_≡_, refl}
 use mathlib.Core.Bool.{true, false}
-use mathlib.Core.List.{List, [], _∷_}
+use mathlib.Core.List.{[], _∷_}
 use lib.IntN.{pos, negsuc}
-use lib.ListN.{replicate}
 use Rattle.laws.specs.Count.{countTo}
 use Rattle.map.specs.Bits.{isSet}
 use Rattle.temperature.specs.declared.Reading.the-variants.{Taken, Missing}
 use Rattle.state.specs.declared.Boost.the-variants as boost
 use Rattle.state.specs.declared.Override.the-variants as override
 use Rattle.state.specs.PowerOn.{defaultSetup}
-use Rattle.drive.specs.Tables.{unitOf, tableOf, sumTo, isReached, thresholdReached, notAbove, settled, newStep, askedDuty}
-use Rattle.drive.specs.Boosts.{isLatched, isBoosted, boostEnabled}
+use Rattle.drive.specs.Tables.{unitOf, tableOf, sumTo, isReached, thresholdReached, notAbove, settled, newStep}
+use Rattle.drive.specs.Boosts.{isLatched, isBoosted}
 use Rattle.drive.specs.Ramps.{delayOf, movedLevel, rampedOn}
 use Rattle.drive.specs.Duties.{boundLargest, tablesAsk, fanDuty, loadedStart, kickedFan}
 

@@ -1,5 +1,5 @@
 -- Document 01, "Events", with the refusal of "Lines and refusals" for numbers out of range: one event, by cases. Assumes nothing.
-use mathlib.Core.Bool.{Bool, true, false}
+use mathlib.Core.Bool.{Bool, true, false, not}
 use Prim.Native.Nat.{ℕ, _-_, _%_}
 use lib.Dec.{eqb, leb, ltb}
 use lib.IntN.{pos, negsuc}
@@ -54,6 +54,38 @@ unfoldable pub levelOf : Count → ℕ
 levelOf Missing = 0
 levelOf (Taken n) = n % 256
 
+-- the numbers of each event
+abbrev pub temperatureIn : ℕ → Reading → Bool
+temperatureIn zone r = both (indexIn 5 zone) (readingIn r)
+
+abbrev pub voltageIn : ℕ → Count → Bool
+voltageIn channel n = both (indexIn 16 channel) (countIn 255 n)
+
+abbrev pub fanIn : ℕ → Count → Bool
+fanIn fan n = both (indexIn 4 fan) (countIn 16383 n)
+
+abbrev pub hotIn : ℕ → Count → Bool
+hotIn input level = both (indexIn 4 input) (levelIn 1 level)
+
+-- "address above 7Fh"
+abbrev pub addressIn : ℕ → Bool
+addressIn address = not (ltb 0x7F address)
+
+unfoldable pub eventIn : Event → Bool
+eventIn (Temperature zone r) = temperatureIn zone r
+eventIn (Voltage channel n) = voltageIn channel n
+eventIn (Fan fan n) = fanIn fan n
+eventIn (Hot input level) = hotIn input level
+eventIn (Pin level) = levelIn 2 level
+eventIn Tick = true
+eventIn Reset = true
+eventIn (Write address a byte) = addressIn address
+eventIn (Read address a) = addressIn address
+
+-- 0, or refusal 2: "an event number out of range, "-" in H or A, address above 7Fh"
+unfoldable pub refusalOf : Event → ℕ
+refusalOf e = pick (eventIn e) 0 2
+
 -- ---- what an event leaves and answers
 
 -- "The rest print nothing."
@@ -67,17 +99,17 @@ refusedStep c = record { chip = c; answer = Refused 2 }
 -- ---- each event
 
 unfoldable pub temperatureStep : Chip → ℕ → Reading → Stepped
-temperatureStep c zone r = pick (both (indexIn 5 zone) (readingIn r)) (quietStep (tookTemperature c (zone - 1) r)) (refusedStep c)
+temperatureStep c zone r = pick (temperatureIn zone r) (quietStep (tookTemperature c (zone - 1) r)) (refusedStep c)
 
 unfoldable pub voltageStep : Chip → ℕ → Count → Stepped
-voltageStep c channel n = pick (both (indexIn 16 channel) (countIn 255 n)) (quietStep (tookVoltage c (channel - 1) n)) (refusedStep c)
+voltageStep c channel n = pick (voltageIn channel n) (quietStep (tookVoltage c (channel - 1) n)) (refusedStep c)
 
 unfoldable pub fanStep : Chip → ℕ → Count → Stepped
-fanStep c fan n = pick (both (indexIn 4 fan) (countIn 16383 n)) (quietStep (tookFan c (fan - 1) n)) (refusedStep c)
+fanStep c fan n = pick (fanIn fan n) (quietStep (tookFan c (fan - 1) n)) (refusedStep c)
 
 unfoldable pub hotStep : Chip → ℕ → Count → Stepped
 hotStep c input level =
-    pick (both (indexIn 4 input) (levelIn 1 level)) (quietStep (tookHot c (input - 1) (eqb (levelOf level) 1))) (refusedStep c)
+    pick (hotIn input level) (quietStep (tookHot c (input - 1) (eqb (levelOf level) 1))) (refusedStep c)
 
 unfoldable pub pinStep : Chip → Count → Stepped
 pinStep c level = pick (levelIn 2 level) (quietStep (tookPin c (levelOf level))) (refusedStep c)

@@ -1,9 +1,12 @@
 // The events of the chip: each is taken, or refused by its number (document 01, "Events" and "Lines and refusals").
 ghost use mathlib.Core.Path.{_≡_};
-ghost use Rattle.event.specs.Event.{indexIn, readingIn, countIn, levelIn, levelOf, seenAnswer, quietStep, refusedStep, temperatureStep, voltageStep, fanStep, hotStep, pinStep, tickStep, writeStep, readStep, steppedChip};
+ghost use Rattle.event.specs.Event.{indexIn, readingIn, countIn, levelIn, levelOf, temperatureIn, voltageIn, fanIn, hotIn, addressIn, eventIn, refusalOf, seenAnswer, quietStep, refusedStep, hotStep, pinStep, tickStep, writeStep, steppedChip};
 use bus::Shown;
+use map::registers;
 use state::Chip;
 use state::Count;
+use state::Gauge;
+use state::Zone;
 use temperature::Reading;
 
 // An event, with the numbers as they came in.
@@ -107,6 +110,78 @@ fn level_in(most: u16, level: Count) -> bool
     n <= most
 }
 
+fn temperature_in(zone: u8, reading: Reading) -> bool
+    ensures { λ r. ⌜ r ≡ temperatureIn zone reading ⌝ }
+{
+    if index_in(5, zone) {
+        return reading_in(reading);
+    }
+    false
+}
+
+fn voltage_in(channel: u8, count: Count) -> bool
+    ensures { λ r. ⌜ r ≡ voltageIn channel count ⌝ }
+{
+    if index_in(16, channel) {
+        return count_in(255, count);
+    }
+    false
+}
+
+fn fan_in(fan: u8, count: Count) -> bool
+    ensures { λ r. ⌜ r ≡ fanIn fan count ⌝ }
+{
+    if index_in(4, fan) {
+        return count_in(16383, count);
+    }
+    false
+}
+
+fn hot_in(input: u8, level: Count) -> bool
+    ensures { λ r. ⌜ r ≡ hotIn input level ⌝ }
+{
+    if index_in(4, input) {
+        return level_in(1, level);
+    }
+    false
+}
+
+fn address_in(address: u8) -> bool
+    ensures { λ r. ⌜ r ≡ addressIn address ⌝ }
+{
+    if ADDRESS_TOP < address { false } else { true }
+}
+
+fn event_in(event: Event) -> bool
+    ensures { λ r. ⌜ r ≡ eventIn event ⌝ }
+{
+    match event {
+        Event::Temperature { zone, reading } => temperature_in(zone, reading),
+        Event::Voltage { channel, count } => voltage_in(channel, count),
+        Event::Fan { fan, count } => fan_in(fan, count),
+        Event::Hot { input, level } => hot_in(input, level),
+        Event::Pin { level } => level_in(2, level),
+        Event::Tick => true,
+        Event::Reset => true,
+        Event::Write {
+            address,
+            register: _,
+            byte: _,
+        } => address_in(address),
+        Event::Read {
+            address,
+            register: _,
+        } => address_in(address),
+    }
+}
+
+// 0, or the refusal of an event that has a number out of range: of any chip, since no range asks for one.
+pub fn refusal_of(event: Event) -> u8
+    ensures { λ r. ⌜ r ≡ refusalOf event ⌝ }
+{
+    if event_in(event) { 0 } else { OUT_OF_RANGE }
+}
+
 // ---- answers
 
 fn quiet(chip: Chip) -> Stepped
@@ -129,46 +204,11 @@ fn refuse(chip: Chip) -> Stepped
 
 // ---- the events
 
-fn step_temperature(chip: Chip, zone: u8, reading: Reading) -> Stepped
-    ensures { λ r. ⌜ r ≡ temperatureStep chip zone reading ⌝ }
-{
-    if index_in(5, zone) {
-        if reading_in(reading) {
-            return quiet(sense::take_temperature(chip, zone - 1, reading));
-        }
-    }
-    refuse(chip)
-}
-
-fn step_voltage(chip: Chip, channel: u8, count: Count) -> Stepped
-    ensures { λ r. ⌜ r ≡ voltageStep chip channel count ⌝ }
-{
-    if index_in(16, channel) {
-        if count_in(255, count) {
-            return quiet(sense::take_voltage(chip, channel - 1, count));
-        }
-    }
-    refuse(chip)
-}
-
-fn step_fan(chip: Chip, fan: u8, count: Count) -> Stepped
-    ensures { λ r. ⌜ r ≡ fanStep chip fan count ⌝ }
-{
-    if index_in(4, fan) {
-        if count_in(16383, count) {
-            return quiet(sense::take_fan(chip, fan - 1, count));
-        }
-    }
-    refuse(chip)
-}
-
 fn step_hot(chip: Chip, input: u8, level: Count) -> Stepped
     ensures { λ r. ⌜ r ≡ hotStep chip input level ⌝ }
 {
-    if index_in(4, input) {
-        if level_in(1, level) {
-            return quiet(sense::take_hot(chip, input - 1, level_of(level) == 1));
-        }
+    if hot_in(input, level) {
+        return quiet(sense::take_hot(chip, input - 1, level_of(level) == 1));
     }
     refuse(chip)
 }
@@ -239,38 +279,97 @@ fn seen_answer(shown: Shown) -> Answer
     }
 }
 
-fn step_read(chip: Chip, address: u8, register: u8) -> Stepped
-    ensures { λ r. ⌜ r ≡ readStep chip address register ⌝ }
-{
-    if ADDRESS_TOP < address {
-        return refuse(chip);
-    }
-    let seen = bus::read_byte(chip, address, register);
-    let next = seen.chip;
-    let shown = seen.shown;
-    Stepped {
-        chip: next,
-        answer: seen_answer(shown),
-    }
-}
-
-// One event: the chip after it and its answer. A refused event leaves the chip as it was.
+// One event: the chip after it and its answer. A refused event leaves the chip as it was. Readings, which most events are, go straight to
+// their places in the chip, and of a byte read only the pin comes back: the chip is large to hand on.
 pub fn step(chip: Chip, event: Event) -> Stepped
     ensures { λ r. ⌜ r ≡ steppedChip chip event ⌝ }
 {
+    let mut next = chip;
+    let mut answer = Answer::Nothing;
     match event {
-        Event::Temperature { zone, reading } => step_temperature(chip, zone, reading),
-        Event::Voltage { channel, count } => step_voltage(chip, channel, count),
-        Event::Fan { fan, count } => step_fan(chip, fan, count),
-        Event::Hot { input, level } => step_hot(chip, input, level),
-        Event::Pin { level } => step_pin(chip, level),
-        Event::Tick => step_tick(chip),
-        Event::Reset => quiet(sense::take_reset(chip)),
+        Event::Temperature { zone, reading } => {
+            if temperature_in(zone, reading) {
+                let at = zone - 1;
+                let source = next.registers[registers::TEMPERATURE_SOURCE_SELECT as usize];
+                if sense::hears_zone(source, at) {
+                    let z = Zone { reading: reading };
+                    next.zones[at as usize] = z;
+                }
+            } else {
+                answer = Answer::Refused(OUT_OF_RANGE);
+            }
+        }
+        Event::Voltage { channel, count } => {
+            if voltage_in(channel, count) {
+                let at = channel - 1;
+                let gauge = Gauge { count: count };
+                next.volts[at as usize] = gauge;
+                sense::compare_voltage(&mut next.registers, at, count);
+                let source = next.registers[registers::TEMPERATURE_SOURCE_SELECT as usize];
+                let z = Zone {
+                    reading: sense::volt_reading(count),
+                };
+                if sense::feeds_three(source, at) {
+                    next.zones[4] = z;
+                } else if sense::feeds_four(source, at) {
+                    next.zones[5] = z;
+                }
+            } else {
+                answer = Answer::Refused(OUT_OF_RANGE);
+            }
+        }
+        Event::Fan { fan, count } => {
+            if fan_in(fan, count) {
+                let at = fan - 1;
+                let gauge = Gauge { count: count };
+                next.fans[at as usize] = gauge;
+                sense::compare_count(&mut next.registers, at, count);
+            } else {
+                answer = Answer::Refused(OUT_OF_RANGE);
+            }
+        }
+        Event::Hot { input, level } => {
+            let done = step_hot(next, input, level);
+            next = done.chip;
+            answer = done.answer;
+        }
+        Event::Pin { level } => {
+            let done = step_pin(next, level);
+            next = done.chip;
+            answer = done.answer;
+        }
+        Event::Tick => {
+            let done = step_tick(next);
+            next = done.chip;
+            answer = done.answer;
+        }
+        Event::Reset => {
+            next = sense::take_reset(next);
+        }
         Event::Write {
             address,
             register,
             byte,
-        } => step_write(chip, address, register, byte),
-        Event::Read { address, register } => step_read(chip, address, register),
+        } => {
+            let done = step_write(next, address, register, byte);
+            next = done.chip;
+            answer = done.answer;
+        }
+        Event::Read { address, register } => {
+            if address_in(address) {
+                let seen = bus::read_byte(next, address, register);
+                let after = seen.chip;
+                let pin = after.pin;
+                let shown = seen.shown;
+                next.pin = pin;
+                answer = seen_answer(shown);
+            } else {
+                answer = Answer::Refused(OUT_OF_RANGE);
+            }
+        }
+    }
+    Stepped {
+        chip: next,
+        answer: answer,
     }
 }

@@ -1,12 +1,12 @@
 -- A test that each of the numbers below n passes, and how a loop finds out. Assumes nothing.
-use Prim.Native.Nat.{ℕ, zero, suc, _+_, _≤_, _<_}
+use Prim.Native.Nat.{ℕ, zero, suc, _+_, _<_}
 use mathlib.Core.Path.{_≡_, refl, ap, sym, _∙_}
 use mathlib.Core.Bool.{Bool, true, false}
 use native.Mathlib.Numerals.{add-one}
 use native.Mathlib.Omega.{arith}
 use native.Mathlib.Decide.{decLt}
-use lib.Dec.{T}
 use Rattle.laws.specs.Pick.{both}
+use Rattle.laws.specs.Both.{both-false, both-left, both-right}
 
 -- p holds of 0 to n - 1
 unfoldable pub every : ℕ → (ℕ → Bool) → Bool
@@ -23,10 +23,6 @@ pub every-more : (p : ℕ → Bool) (k : ℕ) → every k p ≡ true → p k ≡
 unfolding every
 every-more p k e h = rw (add-one, every, e, h)
 
-both-false : (b : Bool) {x : Bool} → x ≡ false → both b x ≡ false
-both-false true e = e
-both-false false e = refl
-
 pub every-stop : (p : ℕ → Bool) (k n : ℕ) → k < n → p k ≡ false → every n p ≡ false
 unfolding every
 every-stop p k zero l h = absurd (omega arith)
@@ -34,20 +30,9 @@ every-stop p k (suc n) l h = go (decLt k n) (λ m. every-stop p k n m h)
   where
     go : Dec (k < n) → (k < n → every n p ≡ false) → both (every n p) (p n) ≡ false
     go (yes m) ih = rw (ih m)
-    go (no m) ih = let e : k ≡ n = omega arith in both-false (every n p) (ap p (sym e) ∙ h)
+    go (no m) ih = let e : k ≡ n = omega arith in rw (ap p (sym e) ∙ h, both-false)
 
 -- ---- what it says
-
-both-left : (a b : Bool) → both a b ≡ true → a ≡ true
-both-left true b e = refl
-both-left false b e = e
-
-both-right : (a b : Bool) → both a b ≡ true → b ≡ true
-both-right true b e = e
-both-right false b e = absurd (clash e)
-  where
-    clash : false ≡ true → ⊥
-    clash q = let z : _≡_ {A = ℕ} 0 1 = cc in omega arith
 
 pub every-at : (p : ℕ → Bool) (n k : ℕ) → every n p ≡ true → k < n → p k ≡ true
 unfolding every

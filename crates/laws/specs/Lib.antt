@@ -1,4 +1,5 @@
 pub mod Pick
+pub mod Both
 pub mod Table
 pub mod Count
 pub mod Tab

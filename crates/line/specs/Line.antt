@@ -1,5 +1,5 @@
 -- Document 01, "Lines and refusals": one line given to the chip. Assumes nothing.
-use mathlib.Core.Bool.{Bool, true, false}
+use mathlib.Core.Bool.{true, false}
 use mathlib.Core.List.{List, []}
 use Prim.Native.Nat.{ℕ}
 use lib.Dec.{eqb, ltb}
@@ -10,7 +10,6 @@ use Rattle.state.specs.PowerOn.{defaultSetup, powerOn}
 use Rattle.event.specs.declared.Event.{Event}
 use Rattle.event.specs.declared.Answer.{Answer}
 use Rattle.event.specs.declared.Answer.the-variants.{Nothing, Refused, Acknowledged, Byte, NoByte, Ticked}
-use Rattle.event.specs.declared.Stepped.{Stepped}
 use Rattle.event.specs.Event.{steppedChip}
 use Rattle.text.specs.Answers.{ackText, byteText, noByteText, tickText, wroteLength, wroteInto}
 use Rattle.parse.specs.declared.Parsed.{Parsed}
@@ -19,8 +18,13 @@ use Rattle.parse.specs.Parse.{letterOf, eventOf}
 use Rattle.settings.specs.declared.Settings.{Settings}
 use Rattle.settings.specs.Settings.{settingsOf}
 use Rattle.line.specs.declared.Session.{Session}
-use Rattle.line.specs.declared.Judged.{Judged}
 use Rattle.line.specs.declared.Taken.{Taken}
+
+-- what a line makes of a session: 0 or its refusal, and its answer
+pub record Judged : Type 0 where
+  pub session : Session
+  pub refusal : ℕ
+  pub answer : Answer
 
 -- "Without a setup", and no line taken
 unfoldable pub startSession : Session

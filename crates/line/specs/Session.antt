@@ -5,8 +5,7 @@ use lib.Dec.{eqb}
 use Rattle.laws.specs.Pick.{pick}
 use Rattle.text.specs.Answers.{refusalText}
 use Rattle.line.specs.declared.Session.{Session}
-use Rattle.line.specs.declared.Judged.{Judged}
-use Rattle.line.specs.Line.{judgedLine, answerText}
+use Rattle.line.specs.Line.{Judged, judgedLine, answerText}
 
 -- the session after the lines
 unfoldable pub sessionAfter : Session → List (List ℕ) → Session

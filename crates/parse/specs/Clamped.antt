@@ -5,6 +5,7 @@ use mathlib.Core.Path.{_≡_, refl}
 use native.Mathlib.Omega.{arith}
 use lib.Dec.{eqb}
 use lib.IntN.{pos, negsuc}
+use Rattle.laws.specs.Both.{both-false}
 use Rattle.temperature.specs.declared.Reading.{Reading}
 use Rattle.temperature.specs.declared.Reading.the-variants as reading
 use Rattle.state.specs.declared.Chip.{Chip}
@@ -19,7 +20,7 @@ use Rattle.parse.specs.declared.Parsed.{Parsed}
 use Rattle.parse.specs.declared.Parsed.the-variants.{Wrong, Fine}
 use Rattle.parse.specs.declared.Pair.{Pair}
 use Rattle.parse.specs.declared.Pair.the-variants as pair
-use Rattle.parse.specs.Unseen.{Unseen, same, held-unseen, within-unseen, both-false, one-unseen, both-unseen}
+use Rattle.parse.specs.Unseen.{Unseen, same, held-unseen, within-unseen, one-unseen, both-unseen}
 
 unfoldable pub saturatedPair : Pair → Pair
 saturatedPair pair.Wrong = pair.Wrong

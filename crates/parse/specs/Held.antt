@@ -7,9 +7,9 @@ use native.Mathlib.Omega.{arith}
 use lib.Dec.{eqb}
 use lib.IntN.{pos, negℤ}
 use lib.ListN.{length}
-use Rattle.laws.specs.Pointwise.{pick-each}
+use Rattle.laws.specs.Pick.{both}
+use Rattle.laws.specs.Pointwise.{pick-related, pick-each}
 use Rattle.temperature.specs.declared.Reading.the-variants.{Taken}
-use Rattle.bus.specs.Changes.{never}
 use Rattle.event.specs.declared.Event.{Event}
 use Rattle.text.specs.declared.Number.{Number}
 use Rattle.text.specs.declared.Number.the-variants as number
@@ -22,7 +22,8 @@ use Rattle.parse.specs.declared.Parsed.{Parsed}
 use Rattle.parse.specs.declared.Parsed.the-variants.{Fine}
 use Rattle.parse.specs.declared.Pair.{Pair}
 use Rattle.parse.specs.declared.Pair.the-variants.{Wrong, Of}
-use Rattle.parse.specs.Parse.{indexOf, readingOf, countOf, aloneLine, writeBy, writeLine, readBy, readLine}
+use Rattle.parse.specs.Parse.{indexOf, readingOf, countOf, temperatureLine, voltageLine, fanLine, hotLine, aloneLine, writeBy, writeLine, readBy, readLine}
+use Rattle.parse.specs.Pairs.{bothOf, pairLine}
 use Rattle.parse.specs.Clamped.{saturatedPair, clampedIndex, clampedReading, clampedCount, clampedEvent, clampedParsed}
 
 -- ---- numbers
@@ -46,11 +47,11 @@ index-held number.Dash = refl
 index-held (number.Plus v) = omega arith
 index-held (number.Minus v) = refl
 
-pub count-held : (n : Number) → countOf (saturated n) ≡ clampedCount (countOf n)
+pub count-held : (n : Number) → clampedCount (countOf (saturated n)) ≡ clampedCount (countOf n)
 unfolding clampedCount countOf saturated
 count-held number.Wrong = refl
 count-held number.Dash = refl
-count-held (number.Plus v) = refl
+count-held (number.Plus v) = let e : min (min v 65535) 65535 ≡ min v 65535 = omega arith in rw e
 count-held (number.Minus v) = refl
 
 -- a reading below 0 is held to -32767, as one above to 32767
@@ -71,31 +72,44 @@ reading-held (number.Minus v) = rw (clamped-minus (min v 65535), clamped-minus v
 
 -- ---- lines
 
--- the exact numbers of a line whose numbers the code has as i and v: what is handed on is the same
-pub record Exact (p : Pair) (i v : Number) : Type 0 where
-  pub index : Number
-  pub value : Number
-  pub exact : p ≡ Of index value
-  pub same-index : clampedIndex (indexOf i) ≡ clampedIndex (indexOf index)
-  pub same-reading : clampedReading (readingOf v) ≡ clampedReading (readingOf value)
-  pub same-count : countOf v ≡ clampedCount (countOf value)
+-- two numbers make a pair or none
+pub both-held : (i v : Number) → saturatedPair (bothOf i v) ≡ bothOf (saturated i) (saturated v)
+unfolding saturatedPair bothOf
+both-held i v =
+    rw (spelt-held i, spelt-held v) (pick-related (λ (p q : Pair). saturatedPair p ≡ q) (both (isSpelt i) (isSpelt v)) refl refl)
 
-pub pair-held : (p : Pair) {i v : Number} → Of i v ≡ saturatedPair p → Exact p i v
-unfolding saturatedPair
-pair-held Wrong e = absurd (never (cc))
-pair-held (Of i v) e = record {
-  index = i;
-  value = v;
-  exact = refl;
-  same-index = cc (index-held i);
-  same-reading = cc (reading-held v);
-  same-count = cc (count-held v);
-}
+-- handed on as the same
+abbrev Alike : Parsed → Parsed → Type 0
+Alike x y = clampedParsed x ≡ clampedParsed y
 
-pub pair-wrong : (p : Pair) → Wrong ≡ saturatedPair p → p ≡ Wrong
-unfolding saturatedPair
-pair-wrong Wrong e = refl
-pair-wrong (Of i v) e = cc
+temperature-held : (p : Pair) → Alike (temperatureLine (saturatedPair p)) (temperatureLine p)
+unfolding clampedParsed clampedEvent saturatedPair temperatureLine
+temperature-held Wrong = refl
+temperature-held (Of i v) = rw (index-held i, reading-held v)
+
+voltage-held : (p : Pair) → Alike (voltageLine (saturatedPair p)) (voltageLine p)
+unfolding clampedParsed clampedEvent saturatedPair voltageLine
+voltage-held Wrong = refl
+voltage-held (Of i v) = rw (index-held i, count-held v)
+
+fan-held : (p : Pair) → Alike (fanLine (saturatedPair p)) (fanLine p)
+unfolding clampedParsed clampedEvent saturatedPair fanLine
+fan-held Wrong = refl
+fan-held (Of i v) = rw (index-held i, count-held v)
+
+hot-held : (p : Pair) → Alike (hotLine (saturatedPair p)) (hotLine p)
+unfolding clampedParsed clampedEvent saturatedPair hotLine
+hot-held Wrong = refl
+hot-held (Of i v) = rw (index-held i, count-held v)
+
+-- what a pair says is handed on as of the exact one
+pub pair-held : (letter : ℕ) (p : Pair) → clampedParsed (pairLine letter (saturatedPair p)) ≡ clampedParsed (pairLine letter p)
+unfolding pairLine
+pair-held letter p =
+    pick-related Alike (eqb letter 70) (fan-held p)
+    (pick-related Alike (eqb letter 72) (hot-held p)
+    (pick-related Alike (eqb letter 84) (temperature-held p)
+    (pick-related Alike (eqb letter 86) (voltage-held p) refl)))
 
 -- a letter alone, and bus fields, have no number to hold
 pub alone-clamped : (e : Event) (s : List ℕ) → clampedEvent e ≡ e → clampedParsed (aloneLine e s) ≡ aloneLine e s

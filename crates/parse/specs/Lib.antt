@@ -1,4 +1,6 @@
 pub mod Parse
+pub mod Pairs
+pub mod Walked
 pub mod Unseen
 pub mod Clamped
 pub mod Held

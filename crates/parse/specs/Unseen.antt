@@ -1,6 +1,6 @@
 -- A number held to a bound past a test's range: the test, and what is done with the number where it passes, cannot tell. Assumes nothing.
-use mathlib.Core.Path.{_≡_, refl, ap}
-use mathlib.Core.Bool.{Bool, true, false}
+use mathlib.Core.Path.{_≡_, ap}
+use mathlib.Core.Bool.{Bool, false}
 use mathlib.Core.Logic.{by-cases}
 use Prim.Native.Nat.{ℕ, _<_, min}
 use native.Mathlib.Decide.{decLe}
@@ -8,6 +8,7 @@ use native.Mathlib.Omega.{arith}
 use lib.Dec.{leb}
 use borrow.Author.Tests.{lt-leb}
 use Rattle.laws.specs.Pick.{pick, both}
+use Rattle.laws.specs.Both.{both-false}
 
 -- x and y are the same, or the test fails at both
 pub data Unseen {A : Type 0} (test : A → Bool) (x y : A) : Type 0 where
@@ -26,10 +27,6 @@ within-unseen q f h (same e) = same (ap f e)
 within-unseen {x = x} {y = y} q f h (out d e) = out (h x d) (h y e)
 
 -- ---- a choice by a test
-
-pub both-false : (t : Bool) → both t false ≡ false
-both-false true = refl
-both-false false = refl
 
 module _ {A X : Type 0} {p : A → Bool} {a b : A} where
   pub one-unseen : (f : A → X) (z : X) → Unseen p a b → pick (p a) (f a) z ≡ pick (p b) (f b) z

@@ -3,13 +3,16 @@ ghost use mathlib.Core.Path.{_≡_};
 ghost use Prim.Native.Nat.{min};
 ghost use lib.IntN.{pos, negℤ};
 ghost use Rattle.text.specs.Number.{saturated};
-ghost use Rattle.parse.specs.Parse.{numberAt, letterOf, indexOf, readingOf, countOf, pairOf, temperatureLine, voltageLine, fanLine, hotLine, pinLine, aloneLine, writeBy, writeLine, readBy, readLine, eventOf};
-ghost use Rattle.parse.specs.Clamped.{saturatedPair, clampedIndex, clampedReading, clampedParsed};
+ghost use Rattle.parse.specs.Parse.{numberAt, letterOf, indexOf, readingOf, countOf, pairOf, pinLine, aloneLine, writeBy, writeLine, readBy, readLine, eventOf};
+ghost use Rattle.parse.specs.Clamped.{saturatedPair, clampedIndex, clampedReading, clampedCount, clampedParsed};
+ghost use Rattle.parse.specs.Pairs.{bothOf, pairLine};
 use event::Event;
 use state::Count;
 use temperature::Reading;
 use text::Hex;
 use text::Number;
+
+const TAB: u8 = 9;
 
 // What a line says: nothing that is spelled right, or an event.
 pub enum Parsed {
@@ -63,7 +66,7 @@ fn reading_of(n: Number) -> Reading
 
 // A count; one below 0 counts as 65535, which no range holds.
 fn count_of(n: Number) -> Count
-    ensures { λ r. ⌜ r ≡ countOf n ⌝ }
+    ensures { λ r. ⌜ r ≡ clampedCount (countOf n) ⌝ }
 {
     match n {
         Number::Wrong => Count::Missing,
@@ -82,14 +85,10 @@ fn number_at(line: &[u8], k: usize) -> Number
     text::decimal(text::field(line, k))
 }
 
-fn pair_of(line: &[u8]) -> Pair
-    ensures { λ r. ⌜ r ≡ saturatedPair (pairOf (now (line .entry))) ⌝ }
+// An index and a value, where both are spelled right.
+fn both(i: Number, v: Number) -> Pair
+    ensures { λ r. ⌜ r ≡ bothOf i v ⌝ }
 {
-    if text::count_fields(line) != 3 {
-        return Pair::Wrong;
-    }
-    let i = number_at(line, 1);
-    let v = number_at(line, 2);
     if text::is_spelt(i) {
         if text::is_spelt(v) {
             return Pair::Of(i, v);
@@ -98,51 +97,57 @@ fn pair_of(line: &[u8]) -> Pair
     Pair::Wrong
 }
 
-fn temperature_line(line: &[u8]) -> Parsed
-    ensures { λ r. ⌜ r ≡ clampedParsed (temperatureLine (pairOf (now (line .entry)))) ⌝ }
+fn pair_of(line: &[u8]) -> Pair
+    ensures { λ r. ⌜ r ≡ saturatedPair (pairOf (now (line .entry))) ⌝ }
 {
-    match pair_of(line) {
-        Pair::Wrong => Parsed::Wrong,
-        Pair::Of(i, v) => Parsed::Fine(Event::Temperature {
-            zone: index_of(i),
-            reading: reading_of(v),
-        }),
+    let first = text::width(line);
+    if first == line.len() {
+        return Pair::Wrong;
     }
+    let rest = &line[first + 1..];
+    let second = text::width(rest);
+    if second == rest.len() {
+        return Pair::Wrong;
+    }
+    let last = &rest[second + 1..];
+    if text::width(last) != last.len() {
+        return Pair::Wrong;
+    }
+    both(text::decimal(&rest[..second]), text::decimal(last))
 }
 
-fn voltage_line(line: &[u8]) -> Parsed
-    ensures { λ r. ⌜ r ≡ clampedParsed (voltageLine (pairOf (now (line .entry)))) ⌝ }
+// The event of a letter that has an index and a value behind it.
+fn pair_event(letter: u8, i: Number, v: Number) -> Parsed
+    ensures { λ r. ⌜ r ≡ clampedParsed (pairLine letter (Pair.Of i v)) ⌝ }
 {
-    match pair_of(line) {
-        Pair::Wrong => Parsed::Wrong,
-        Pair::Of(i, v) => Parsed::Fine(Event::Voltage {
-            channel: index_of(i),
+    let index = index_of(i);
+    match letter {
+        b'F' => Parsed::Fine(Event::Fan {
+            fan: index,
             count: count_of(v),
         }),
-    }
-}
-
-fn fan_line(line: &[u8]) -> Parsed
-    ensures { λ r. ⌜ r ≡ clampedParsed (fanLine (pairOf (now (line .entry)))) ⌝ }
-{
-    match pair_of(line) {
-        Pair::Wrong => Parsed::Wrong,
-        Pair::Of(i, v) => Parsed::Fine(Event::Fan {
-            fan: index_of(i),
-            count: count_of(v),
-        }),
-    }
-}
-
-fn hot_line(line: &[u8]) -> Parsed
-    ensures { λ r. ⌜ r ≡ clampedParsed (hotLine (pairOf (now (line .entry)))) ⌝ }
-{
-    match pair_of(line) {
-        Pair::Wrong => Parsed::Wrong,
-        Pair::Of(i, v) => Parsed::Fine(Event::Hot {
-            input: index_of(i),
+        b'H' => Parsed::Fine(Event::Hot {
+            input: index,
             level: count_of(v),
         }),
+        b'T' => Parsed::Fine(Event::Temperature {
+            zone: index,
+            reading: reading_of(v),
+        }),
+        b'V' => Parsed::Fine(Event::Voltage {
+            channel: index,
+            count: count_of(v),
+        }),
+        _ => Parsed::Wrong,
+    }
+}
+
+fn pair_line(letter: u8, line: &[u8]) -> Parsed
+    ensures { λ r. ⌜ r ≡ clampedParsed (pairLine letter (pairOf (now (line .entry)))) ⌝ }
+{
+    match pair_of(line) {
+        Pair::Wrong => Parsed::Wrong,
+        Pair::Of(i, v) => pair_event(letter, i, v),
     }
 }
 
@@ -232,9 +237,18 @@ fn read_line(line: &[u8]) -> Parsed
 pub fn letter_of(line: &[u8]) -> u8
     ensures { λ r. ⌜ r ≡ letterOf (now (line .entry)) ⌝ }
 {
-    let first = text::field(line, 0);
-    if first.len() == 1 {
-        return first[0];
+    if line.len() == 0 {
+        return 0;
+    }
+    let first = line[0];
+    if first == TAB {
+        return 0;
+    }
+    if line.len() == 1 {
+        return first;
+    }
+    if line[1] == TAB {
+        return first;
     }
     0
 }
@@ -245,14 +259,10 @@ pub fn event_of(letter: u8, line: &[u8]) -> Parsed
 {
     match letter {
         b'A' => pin_line(line),
-        b'F' => fan_line(line),
-        b'H' => hot_line(line),
         b'K' => alone_line(line, Event::Tick),
         b'R' => read_line(line),
-        b'T' => temperature_line(line),
-        b'V' => voltage_line(line),
         b'W' => write_line(line),
         b'X' => alone_line(line, Event::Reset),
-        _ => Parsed::Wrong,
+        _ => pair_line(letter, line),
     }
 }

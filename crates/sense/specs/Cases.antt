@@ -1,8 +1,7 @@
 -- Document 01's cases of errors, computed on the definitions from power-on. Assumes nothing.
 use mathlib.Core.Path.{_≡_, refl}
-use mathlib.Core.Bool.{Bool, true, false}
+use mathlib.Core.Bool.{true, false}
 use Prim.Native.Nat.{ℕ}
-use lib.ListN.{getD}
 use Rattle.map.specs.Tables.{defaults}
 use Rattle.map.specs.Bits.{isSet}
 use Rattle.temperature.specs.declared.Reading.the-variants as reading
@@ -10,12 +9,12 @@ use Rattle.temperature.specs.Temperature.{byteOf, wholeOf, wholeByte, countRead
 use Rattle.state.specs.declared.Chip.{Chip}
 use Rattle.state.specs.declared.Count.the-variants.{Taken, Missing}
 use Rattle.state.specs.Parts.{registerAt, zoneAt}
-use Rattle.state.specs.With.{withRegister, withZone, withVolt, withFan}
+use Rattle.state.specs.With.{withRegister, withZone, withVolt}
 use Rattle.state.specs.PowerOn.{defaultSetup, powerOn, atRest}
-use Rattle.sense.specs.Errors.{withBit, markedVolt, markedFan, lowLimit, highLimit, isOutside, comparedVolt, fanLimit, fanLimitAt, comparedFan}
+use Rattle.sense.specs.Errors.{withBit, markedVolt, markedFan, lowLimit, highLimit, isOutside, comparedVolt, fanLimit, fanLimitAt}
 use Rattle.sense.specs.Missing.{voltWatched, fanWatched, missedVolt, missedFan, missedVolts, missedFans, missed}
 use Rattle.sense.specs.Standing.{bitsOf, errorsStanding, alertActive}
-use Rattle.sense.specs.Events.{zoneThreeFed, tookTemperature, voltReading, feedsThree, feedsFour, fedZone, tookVoltage, tookFan, resetFile, tookReset}
+use Rattle.sense.specs.Events.{voltReading, feedsThree, feedsFour, fedZone, tookVoltage, resetFile, tookReset}
 
 -- channel 7 with limits 80 and 100: its registers are 9Ch and 9Dh
 unfoldable pub limited : Chip

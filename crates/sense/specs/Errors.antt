@@ -51,3 +51,10 @@ fanLimitAt file i = fanLimit (getD file (FAN-TACH-1-LIMIT-LSB + 2 * i) 0) (getD 
 unfoldable pub comparedFan : List ℕ → ℕ → Count → List ℕ
 comparedFan file i Missing = file
 comparedFan file i (Taken n) = pick (ltb (fanLimitAt file i) n) (markedFan file i) file
+
+-- the register file after a voltage, and after a fan count; one that is not there changes nothing
+unfoldable pub voltageFile : List ℕ → ℕ → Count → List ℕ
+voltageFile file channel n = pick (ltb channel 16) (comparedVolt file channel n) file
+
+unfoldable pub fanFile : List ℕ → ℕ → Count → List ℕ
+fanFile file fan n = pick (ltb fan 4) (comparedFan file fan n) file

@@ -25,6 +25,10 @@ use Rattle.sense.specs.Errors.{comparedVolt, comparedFan}
 unfoldable pub zoneThreeFed : ℕ → Bool
 zoneThreeFed source = either (isSet source INT-AD11) (isSet source INT-WR-E)
 
+-- whether T sets a zone
+unfoldable pub zoneHeard : ℕ → ℕ → Bool
+zoneHeard source zone = either (ltb zone 4) (both (eqb zone 4) (not (zoneThreeFed source)))
+
 -- "T, zone 1 to 5 (1a, 1b, 2a, 2b, zone 3)"; "Zone 4 has no T event."
 unfoldable pub tookTemperature : Chip → ℕ → Reading → Chip
 tookTemperature c zone r =

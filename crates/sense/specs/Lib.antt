@@ -7,4 +7,5 @@ pub mod Marks
 pub mod Alerts
 pub mod Keeps
 pub mod Events
+pub mod Heard
 pub mod Cases

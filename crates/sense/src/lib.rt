@@ -1,10 +1,10 @@
 // How readings come in, and the errors they raise (document 01, "Events" and "Errors and ALERT").
 ghost use mathlib.Core.Path.{_≡_};
 ghost use Prim.Native.Nat.{_+_, _<_, _^_};
-ghost use Rattle.sense.specs.Errors.{withBit, markedVolt, markedFan, isOutside, fanLimit, comparedVolt, comparedFan};
+ghost use Rattle.sense.specs.Errors.{withBit, markedVolt, markedFan, isOutside, fanLimit, comparedVolt, comparedFan, voltageFile, fanFile};
 ghost use Rattle.sense.specs.Missing.{voltWatched, fanWatched, missedVolt, missedFan, missedVolts, missedFans, missed};
 ghost use Rattle.sense.specs.Standing.{bitsOf, errorsStanding, alertActive};
-ghost use Rattle.sense.specs.Events.{zoneThreeFed, tookTemperature, voltReading, feedsThree, feedsFour, fedZone, tookVoltage, tookFan, tookHot, tookPin, tookReset};
+ghost use Rattle.sense.specs.Events.{zoneThreeFed, zoneHeard, voltReading, feedsThree, feedsFour, tookHot, tookPin, tookReset};
 use map::bits;
 use map::registers;
 use state::Chip;
@@ -70,7 +70,6 @@ fn fan_limit(low: u8, high: u8) -> u16
     (low / 4) as u16 + high as u16 * 64
 }
 
-// A voltage reading is compared with its limits.
 fn compare_volt(file: &mut [u8; 256], channel: u8, count: Count)
     requires { ⌜ channel < 16 ⌝ }
     ensures { λ _. ⌜ now (file .exit) ≡ comparedVolt (now (file .entry)) channel count ⌝ }
@@ -86,7 +85,6 @@ fn compare_volt(file: &mut [u8; 256], channel: u8, count: Count)
     }
 }
 
-// A fan count is compared with its limit.
 fn compare_fan(file: &mut [u8; 256], fan: u8, count: Count)
     requires { ⌜ fan < 4 ⌝ }
     ensures { λ _. ⌜ now (file .exit) ≡ comparedFan (now (file .entry)) fan count ⌝ }
@@ -99,6 +97,24 @@ fn compare_fan(file: &mut [u8; 256], fan: u8, count: Count)
     let high = file[at + 1];
     if fan_limit(low, high) < n {
         mark_fan(file, fan);
+    }
+}
+
+// A voltage reading is compared with its limits, and can set its error bit. Channels count from 0; there are sixteen.
+pub fn compare_voltage(file: &mut [u8; 256], channel: u8, count: Count)
+    ensures { λ _. ⌜ now (file .exit) ≡ voltageFile (now (file .entry)) channel count ⌝ }
+{
+    if channel < 16 {
+        compare_volt(file, channel, count);
+    }
+}
+
+// A fan count is compared with its limit, and can set its error bit. Fans count from 0; there are four.
+pub fn compare_count(file: &mut [u8; 256], fan: u8, count: Count)
+    ensures { λ _. ⌜ now (file .exit) ≡ fanFile (now (file .entry)) fan count ⌝ }
+{
+    if fan < 4 {
+        compare_fan(file, fan, count);
     }
 }
 
@@ -229,24 +245,24 @@ fn zone_three_fed(source: u8) -> bool
     map::is_set(source, bits::INT_WR_E)
 }
 
-// T: a temperature. Zones count from 0 in the order 1a, 1b, 2a, 2b, 3; the sixth has no T.
-pub fn take_temperature(chip: Chip, zone: u8, reading: Reading) -> Chip
-    ensures { λ r. ⌜ r ≡ tookTemperature chip zone reading ⌝ }
+// T: whether it sets its zone, by 31h. Zones count from 0 in the order 1a, 1b, 2a, 2b, 3; the sixth has no T.
+pub fn hears_zone(source: u8, zone: u8) -> bool
+    ensures { λ r. ⌜ r ≡ zoneHeard source zone ⌝ }
 {
     if zone < 4 {
-        return state::with_zone(chip, zone, reading);
+        return true;
     }
     if zone == 4 {
-        if zone_three_fed(chip.registers[registers::TEMPERATURE_SOURCE_SELECT as usize]) {
-            return chip;
+        if zone_three_fed(source) {
+            return false;
         }
-        return state::with_zone(chip, zone, reading);
+        return true;
     }
-    chip
+    false
 }
 
-// The temperature that a voltage count stands for.
-fn volt_reading(count: Count) -> Reading
+// V: the temperature that a voltage count stands for.
+pub fn volt_reading(count: Count) -> Reading
     ensures { λ r. ⌜ r ≡ voltReading count ⌝ }
 {
     let Count::Taken(n) = count else {
@@ -255,21 +271,8 @@ fn volt_reading(count: Count) -> Reading
     temperature::from_count((n % 256) as u8)
 }
 
-// Channel 11 can set zone 3, and channel 15 zone 4, by 31h.
-fn feed_zone(chip: Chip, channel: u8, count: Count) -> Chip
-    ensures { λ r. ⌜ r ≡ fedZone chip channel count ⌝ }
-{
-    let source = chip.registers[registers::TEMPERATURE_SOURCE_SELECT as usize];
-    if feeds_three(source, channel) {
-        return state::with_zone(chip, 4, volt_reading(count));
-    }
-    if feeds_four(source, channel) {
-        return state::with_zone(chip, 5, volt_reading(count));
-    }
-    chip
-}
-
-fn feeds_three(source: u8, channel: u8) -> bool
+// V: whether a channel also sets zone 3, by 31h. Channels count from 0.
+pub fn feeds_three(source: u8, channel: u8) -> bool
     ensures { λ r. ⌜ r ≡ feedsThree source channel ⌝ }
 {
     if channel == 10 {
@@ -281,37 +284,14 @@ fn feeds_three(source: u8, channel: u8) -> bool
     false
 }
 
-fn feeds_four(source: u8, channel: u8) -> bool
+// V: whether a channel also sets zone 4, by 31h. Channels count from 0.
+pub fn feeds_four(source: u8, channel: u8) -> bool
     ensures { λ r. ⌜ r ≡ feedsFour source channel ⌝ }
 {
     if channel == 14 {
         return map::is_set(source, bits::EXT_AD15);
     }
     false
-}
-
-// V: a voltage. Channels count from 0; there are sixteen.
-pub fn take_voltage(chip: Chip, channel: u8, count: Count) -> Chip
-    ensures { λ r. ⌜ r ≡ tookVoltage chip channel count ⌝ }
-{
-    if channel < 16 {
-        let mut next = state::with_volt(chip, channel, count);
-        compare_volt(&mut next.registers, channel, count);
-        return feed_zone(next, channel, count);
-    }
-    chip
-}
-
-// F: a fan count. Fans count from 0; there are four.
-pub fn take_fan(chip: Chip, fan: u8, count: Count) -> Chip
-    ensures { λ r. ⌜ r ≡ tookFan chip fan count ⌝ }
-{
-    if fan < 4 {
-        let mut next = state::with_fan(chip, fan, count);
-        compare_fan(&mut next.registers, fan, count);
-        return next;
-    }
-    chip
 }
 
 // H: a hot input. Inputs count from 0; there are four.

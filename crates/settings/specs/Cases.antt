@@ -1,11 +1,10 @@
 -- A worked S line: without a setup's own numbers it is the setup without a setup. Assumes nothing.
 use mathlib.Core.Path.{_≡_, refl}
-use Prim.Native.Nat.{ℕ}
 use mathlib.Core.List.{List, [], _∷_, _++_}
 use lib.ListN.{replicate, getD}
 use Rattle.laws.specs.Tab.{tab}
 use Rattle.text.specs.declared.Number.{Number}
-use Rattle.text.specs.declared.Number.the-variants.{Wrong, Dash, Plus, Minus}
+use Rattle.text.specs.declared.Number.the-variants.{Wrong, Dash, Plus}
 use Rattle.state.specs.PowerOn.{defaultSetup}
 use Rattle.settings.specs.Settings.{plainOf, signedOf, boostOf, overrideOf, setupBy}
 

@@ -12,9 +12,8 @@ use Rattle.event.specs.declared.Answer.the-variants.{Nothing, Ticked}
 use Rattle.event.specs.declared.Tick.{Tick}
 use Rattle.parse.specs.declared.Parsed.{Parsed}
 use Rattle.parse.specs.declared.Parsed.the-variants.{Fine}
-use Rattle.parse.specs.Parse.{letterOf, eventOf}
 use Rattle.line.specs.declared.Session.{Session}
-use Rattle.line.specs.declared.Judged.{Judged}
+use Rattle.line.specs.Line.{Judged}
 use Rattle.line.specs.Line.{startSession, begunLine, judgedLine}
 use Rattle.theorems.specs.Alike.{Alike, same as alike, NoHigher, others, AllNoHigher, none as no-answers, more as more-answers}
 use Rattle.theorems.specs.Hotter.{Pair, power-pair, step, next}

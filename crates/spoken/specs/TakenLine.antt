@@ -23,7 +23,7 @@ use Rattle.parse.specs.Parse.{letterOf, eventOf}
 use Rattle.settings.specs.Settings.{settingsOf}
 use Rattle.settings.specs.InRange.{settings-valid}
 use Rattle.line.specs.declared.Session.{Session}
-use Rattle.line.specs.declared.Judged.{Judged}
+use Rattle.line.specs.Line.{Judged}
 use Rattle.line.specs.Line.{refusedLine, begunLine, judgedStep, judgedEvent, judgedParsed, judgedSettings, judgedSetup, judgedLine}
 use Rattle.theorems.specs.Steps.{NotRefused}
 

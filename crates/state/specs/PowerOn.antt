@@ -1,6 +1,6 @@
 -- The setup without a setup, and the chip at power-on (document 01, "Setup" and "Events"). Assumes nothing.
 use mathlib.Core.Bool.{false}
-use mathlib.Core.List.{List, [], _∷_}
+use mathlib.Core.List.{[], _∷_}
 use lib.IntN.{pos}
 use lib.ListN.{replicate}
 use Rattle.map.specs.Tables.{defaults}

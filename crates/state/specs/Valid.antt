@@ -1,5 +1,4 @@
 -- The setups that document 01 takes: its 59 numbers, each in its range, and duties that never fall. Assumes nothing.
-use mathlib.Core.Path.{_≡_}
 use Prim.Native.Nat.{ℕ, suc, _≤_, _<_}
 use lib.Dec.{T}
 use lib.IntN.{ℤ, pos, negsuc}

@@ -2,7 +2,7 @@
 ghost use mathlib.Core.Path.{_≡_};
 ghost use lib.ListN.{getD};
 ghost use Rattle.state.specs.Parts.{noZone, noGauge};
-ghost use Rattle.state.specs.With.{withZone, withVolt, withFan};
+ghost use Rattle.state.specs.With.{withZone};
 ghost use Rattle.map.specs.Tables.{defaults};
 ghost use Rattle.state.specs.PowerOn.{defaultSetup, powerOn, atRest};
 use temperature::Reading;
@@ -233,32 +233,6 @@ pub fn with_zone(chip: Chip, zone: u8, reading: Reading) -> Chip
     if at < 6 {
         let z = Zone { reading: reading };
         next.zones[at] = z;
-    }
-    next
-}
-
-// The chip with a voltage's reading; unchanged where there is no such channel.
-pub fn with_volt(chip: Chip, channel: u8, count: Count) -> Chip
-    ensures { λ r. ⌜ r ≡ withVolt chip channel count ⌝ }
-{
-    let at = channel as usize;
-    let mut next = chip;
-    if at < 16 {
-        let gauge = Gauge { count: count };
-        next.volts[at] = gauge;
-    }
-    next
-}
-
-// The chip with a fan's reading; unchanged where there is no such fan.
-pub fn with_fan(chip: Chip, fan: u8, count: Count) -> Chip
-    ensures { λ r. ⌜ r ≡ withFan chip fan count ⌝ }
-{
-    let at = fan as usize;
-    let mut next = chip;
-    if at < 4 {
-        let gauge = Gauge { count: count };
-        next.fans[at] = gauge;
     }
     next
 }

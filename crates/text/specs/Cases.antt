@@ -1,10 +1,10 @@
 -- Worked cases of spelling and of answers, from document 01. Assumes nothing.
 use mathlib.Core.Path.{_≡_, refl}
 use mathlib.Core.Bool.{true, false}
-use mathlib.Core.List.{List, [], _∷_}
+use mathlib.Core.List.{[], _∷_}
 use Rattle.text.specs.declared.Number.the-variants as number
 use Rattle.text.specs.declared.Hex.the-variants as hex
-use Rattle.text.specs.Fields.{firstField, otherFields, fieldsOf, fieldAt}
+use Rattle.text.specs.Fields.{firstField, otherFields, fieldsOf}
 use Rattle.text.specs.Number.{isDigit, allDigits, valueOf, runOf, plusOf, minusOf, decimalOf, saturated}
 use Rattle.text.specs.Hex.{nibbleOf, hexByteOf}
 use Rattle.text.specs.Answers.{digitsText, columnText, hexDigit, hexText, digitOf, ackText, byteText, noByteText, tickText, refusalText}

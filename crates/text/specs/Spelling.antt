@@ -1,18 +1,13 @@
 -- The cases of a decimal field. Assumes nothing.
-use mathlib.Core.Path.{_≡_, refl}
-use mathlib.Core.Bool.{Bool, true, false}
+use mathlib.Core.Path.{_≡_}
 use mathlib.Core.List.{List}
 use Prim.Native.Nat.{ℕ, _<_, _≤_}
 use native.Mathlib.Omega.{arith}
 use lib.ListN.{length, getD, drop}
 use borrow.Author.Tests.{lt-ltb, le-ltb, eq-eqb, ne-eqb}
-use Rattle.laws.specs.Pick.{both}
+use Rattle.laws.specs.Both.{both-false}
 use Rattle.text.specs.declared.Number.the-variants.{Wrong, Dash}
 use Rattle.text.specs.Number.{runOf, asPlus, asMinus, plusOf, minusOf, decimalOf}
-
-both-false : (t : Bool) → both t false ≡ false
-both-false true = refl
-both-false false = refl
 
 -- ---- without a sign
 

@@ -1,15 +1,17 @@
 use Prim.Native.Nat.{_≤_, _-_}
-use mathlib.Core.Path.{_≡_}
+use mathlib.Core.Path.{_≡_, sym}
+use native.Mathlib.Omega.{arith}
 use lib.ListN.{length}
+use lib.Seq.{length-take-le}
 use borrow.Author.Needs.{needs}
 use Rattle.bench.proofs.take_block.Statement.{statement}
 use Rattle.bench.proofs.take_block.Tie as tie
 
 abbrev Inv-loop : tie.InvT-loop
-Inv-loop block line₀ out₀ bench₀ i₀ line out bench i = (i ≤ length block) × (length line ≡ length line₀) × (length out ≡ length out₀)
+Inv-loop block line₀ out₀ session₀ desk₀ i₀ line out session desk i = (i ≤ length block) × (length line ≡ length line₀) × (length out ≡ length out₀)
 
 abbrev μ-loop : tie.MeasureT-loop
-μ-loop block line₀ out₀ bench₀ i₀ line out bench i = length block - i
+μ-loop block line₀ out₀ session₀ desk₀ i₀ line out session desk i = length block - i
 
 loop-holds : tie.Need-loop-holds Inv-loop μ-loop
 loop-holds c = search needs
@@ -29,26 +31,100 @@ line-width-requires c κs = search needs
 add-e : tie.Need-add-e Inv-loop μ-loop
 add-e c = search needs
 
-sub-end-line : tie.Need-sub-end-line Inv-loop μ-loop
-sub-end-line c = search needs
+sub-join : tie.Need-sub-join Inv-loop μ-loop
+sub-join c = search needs
 
-part-end-line-start : tie.Need-part-end-line-start Inv-loop μ-loop
-part-end-line-start c = search needs
+part-join-start : tie.Need-part-join-start Inv-loop μ-loop
+part-join-start c = search needs
 
-part-end-line-end : tie.Need-part-end-line-end Inv-loop μ-loop
-part-end-line-end c = search needs
+part-join-end : tie.Need-part-join-end Inv-loop μ-loop
+part-join-end c = search needs
 
-end-line-requires : tie.Need-end-line-requires Inv-loop μ-loop
-end-line-requires c κs = search needs
+join-requires : tie.Need-join-requires Inv-loop μ-loop
+join-requires c κs = search needs
+
+slice-reshare-prefix-whole : tie.Need-slice-reshare-prefix-whole Inv-loop μ-loop
+slice-reshare-prefix-whole c = search needs
+
+slice-aggregate-whole : tie.Need-slice-aggregate-whole Inv-loop μ-loop
+slice-aggregate-whole c = sym (length-take-le _ _ (search needs))
+
+sub-whole : tie.Need-sub-whole Inv-loop μ-loop
+sub-whole c = search needs
+
+part-whole-start : tie.Need-part-whole-start Inv-loop μ-loop
+part-whole-start c = search needs
+
+part-whole-end : tie.Need-part-whole-end Inv-loop μ-loop
+part-whole-end c = search needs
+
+whole-requires : tie.Need-whole-requires Inv-loop μ-loop
+whole-requires c κs = search needs
 
 add-i : tie.Need-add-i Inv-loop μ-loop
 add-i c = search needs
 
+make-room-requires : tie.Need-make-room-requires Inv-loop μ-loop
+make-room-requires c κs = search needs
+
+smaller-requires : tie.Need-smaller-requires Inv-loop μ-loop
+smaller-requires c κs = search needs
+
+sub-ask : tie.Need-sub-ask Inv-loop μ-loop
+sub-ask c = search needs
+
+ask-requires : tie.Need-ask-requires Inv-loop μ-loop
+ask-requires c κs = search needs
+
+sub-take-setup : tie.Need-sub-take-setup Inv-loop μ-loop
+sub-take-setup c = search needs
+
+part-take-setup-start : tie.Need-part-take-setup-start Inv-loop μ-loop
+part-take-setup-start c = search needs
+
+part-take-setup-end : tie.Need-part-take-setup-end Inv-loop μ-loop
+part-take-setup-end c = search needs
+
+take-setup-requires : tie.Need-take-setup-requires Inv-loop μ-loop
+take-setup-requires c κs = search needs
+
+after-line-requires : tie.Need-after-line-requires Inv-loop μ-loop
+after-line-requires c κs = search needs
+
 loop-less : tie.Need-loop-less Inv-loop μ-loop
-loop-less c = search needs
+loop-less c =
+    let w = c .before .before .before .before .before .before .before .before .before .before .before .before .before .before .before .before .before .before in
+    omega (arith, w)
 
 loop-again : tie.Need-loop-again Inv-loop μ-loop
-loop-again c = search needs
+loop-again c =
+    let w = c .before .before .before .before .before .before .before .before .before .before .before .before .before .before .before .before .before .before in
+    (omega (arith, w), omega (arith, w), search needs)
+
+sub-take-asked : tie.Need-sub-take-asked Inv-loop μ-loop
+sub-take-asked c = search needs
+
+part-take-asked-start : tie.Need-part-take-asked-start Inv-loop μ-loop
+part-take-asked-start c = search needs
+
+part-take-asked-end : tie.Need-part-take-asked-end Inv-loop μ-loop
+part-take-asked-end c = search needs
+
+take-asked-requires : tie.Need-take-asked-requires Inv-loop μ-loop
+take-asked-requires c κs = search needs
+
+after-line-requires-2 : tie.Need-after-line-requires-2 Inv-loop μ-loop
+after-line-requires-2 c κs = search needs
+
+loop-less-2 : tie.Need-loop-less-2 Inv-loop μ-loop
+loop-less-2 c =
+    let w = c .before .before .before .before .before .before .before .before .before .before .before .before .before .before .before .before .before .before in
+    omega (arith, w)
+
+loop-again-2 : tie.Need-loop-again-2 Inv-loop μ-loop
+loop-again-2 c =
+    let w = c .before .before .before .before .before .before .before .before .before .before .before .before .before .before .before .before .before .before in
+    (omega (arith, w), omega (arith, w), search needs)
 
 sub-keep : tie.Need-sub-keep Inv-loop μ-loop
 sub-keep c = search needs
@@ -62,11 +138,11 @@ part-keep-end c = search needs
 keep-requires : tie.Need-keep-requires Inv-loop μ-loop
 keep-requires c κs = search needs
 
-loop-less-2 : tie.Need-loop-less-2 Inv-loop μ-loop
-loop-less-2 c = search needs
+loop-less-3 : tie.Need-loop-less-3 Inv-loop μ-loop
+loop-less-3 c = search needs
 
-loop-again-2 : tie.Need-loop-again-2 Inv-loop μ-loop
-loop-again-2 c = search needs
+loop-again-3 : tie.Need-loop-again-3 Inv-loop μ-loop
+loop-again-3 c = search needs
 
 same-length : tie.Need-same-length Inv-loop μ-loop
 same-length c = search needs
@@ -89,19 +165,41 @@ take-block-spec =
     part-line-width-end
     line-width-requires
     add-e
-    sub-end-line
-    part-end-line-start
-    part-end-line-end
-    end-line-requires
+    sub-join
+    part-join-start
+    part-join-end
+    join-requires
+    slice-reshare-prefix-whole
+    slice-aggregate-whole
+    sub-whole
+    part-whole-start
+    part-whole-end
+    whole-requires
     add-i
+    make-room-requires
+    smaller-requires
+    sub-ask
+    ask-requires
+    sub-take-setup
+    part-take-setup-start
+    part-take-setup-end
+    take-setup-requires
+    after-line-requires
     loop-less
     loop-again
+    sub-take-asked
+    part-take-asked-start
+    part-take-asked-end
+    take-asked-requires
+    after-line-requires-2
+    loop-less-2
+    loop-again-2
     sub-keep
     part-keep-start
     part-keep-end
     keep-requires
-    loop-less-2
-    loop-again-2
+    loop-less-3
+    loop-again-3
     same-length
     same-length-2
     returns)

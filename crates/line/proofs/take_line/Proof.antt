@@ -1,30 +1,50 @@
-use borrow.Author.Tests.{lt-ltb, le-ltb}
-use Rattle.line.specs.Line.{takenLine, takenBy, bufferAfter}
+use mathlib.Core.Path.{sym, ap, _∙_}
+use denote.Ref.{now}
 use borrow.Author.Needs.{needs}
+use Rattle.line.specs.declared.Asked.{Asked}
+use Rattle.line.specs.Asked.{asked-taken, asked-buffer, setup-taken, setup-buffer}
 use Rattle.line.proofs.take_line.Statement.{statement}
 use Rattle.line.proofs.take_line.Tie as tie
 
-returns : tie.Need-returns
-unfolding takenLine bufferAfter
-returns c = let t = lt-ltb _ _ (c .if1 .taken) in (rw t, rw t)
+ask-requires : tie.Need-ask-requires
+ask-requires c κs = search needs
 
-judge-requires : tie.Need-judge-requires
-judge-requires c κs = search needs
-
-write-answer-requires : tie.Need-write-answer-requires
-write-answer-requires c κs = search needs
+take-setup-requires : tie.Need-take-setup-requires
+take-setup-requires c κs = search needs
 
 same-length : tie.Need-same-length
 same-length c = search needs
 
+returns : tie.Need-returns
+returns c =
+    let asked = c .before .before .before .before .before in
+    let given = asked .before .before .before .args in
+    let h = ap (λ (a : Asked). a .setup) (sym (asked .ask .ensures)) ∙ c .before .before .before .before .if1 .taken in
+    let t = c .before .before .take-setup .ensures in
+    (t .0 ∙ sym (setup-taken (given .session) (now (given .line)) (now (given .out)) h), t .1 ∙ sym (setup-buffer (given .session) (now (given .line)) (now (given .out)) h))
+
+take-asked-requires : tie.Need-take-asked-requires
+take-asked-requires c κs = search needs
+
+same-length-2 : tie.Need-same-length-2
+same-length-2 c = search needs
+
 returns-2 : tie.Need-returns-2
-unfolding takenLine takenBy bufferAfter
 returns-2 c =
-    let t = le-ltb _ _ (c .before .before .before .before .before .before .if1 .left) in
-    let j = c .before .before .before .before .before .judge .ensures in
-    let w = c .before .before .write-answer .ensures in
-    (rw (t, ← j, w .0), rw (t, ← j, w .1))
+    let asked = c .before .before .before .before .before in
+    let given = asked .before .before .before .args in
+    let h = ap (λ (a : Asked). a .setup) (sym (asked .ask .ensures)) ∙ c .before .before .before .before .if1 .left in
+    let t = c .before .before .take-asked .ensures in
+    (rw (asked-taken (given .session) (now (given .line)) (now (given .out)) h, ← asked .ask .ensures) (t .0), rw (asked-buffer (given .session) (now (given .line)) (now (given .out)) h, ← asked .ask .ensures) (t .1))
 
 pub take-line-spec : {M : Type 1} → statement M
 take-line-spec =
-    tie.close (tie.spec returns judge-requires write-answer-requires same-length returns-2)
+    tie.close
+    (tie.spec
+    ask-requires
+    take-setup-requires
+    same-length
+    returns
+    take-asked-requires
+    same-length-2
+    returns-2)

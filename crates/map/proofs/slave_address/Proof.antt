@@ -1,4 +1,3 @@
-use mathlib.Core.Path.{sym}
 use borrow.Author.Tests.{eq-eqb, ne-eqb}
 use Rattle.map.specs.Slave.{slaveAddress}
 use Rattle.map.proofs.slave_address.Statement.{statement}

@@ -1,58 +1,104 @@
-use borrow.Author.Tests.{eq-eqb, ne-eqb}
+use mathlib.Core.Path.{sym, _∙_}
+use native.Mathlib.Omega.{arith}
+use lib.Seq.{length-take-le}
 use borrow.Author.Needs.{needs}
-use Rattle.parse.specs.Parse.{pairOf}
+use Rattle.text.specs.Walk.{first-take}
 use Rattle.parse.specs.Clamped.{saturatedPair}
-use Rattle.parse.specs.Held.{spelt-as}
+use Rattle.parse.specs.Walked.{behind, pair-one, pair-two, pair-three, pair-more}
+use Rattle.parse.specs.Held.{both-held}
 use Rattle.parse.proofs.pair_of.Statement.{statement}
 use Rattle.parse.proofs.pair_of.Tie as tie
 
-count-fields-requires : tie.Need-count-fields-requires
-count-fields-requires c κs = search needs
+width-requires : tie.Need-width-requires
+width-requires c κs = search needs
 
 returns : tie.Need-returns
-unfolding saturatedPair pairOf
-returns c = rw (← c .before .count-fields .ensures, ne-eqb _ 3 (c .if1 .taken))
+unfolding saturatedPair
+returns c = rw (pair-one _ (sym (c .before .width .ensures .1) ∙ c .if1 .taken))
 
-number-at-requires : tie.Need-number-at-requires
-number-at-requires c κs = search needs
+add-rest : tie.Need-add-rest
+add-rest c = search needs
 
-number-at-requires-2 : tie.Need-number-at-requires-2
-number-at-requires-2 c κs = search needs
+sub-rest : tie.Need-sub-rest
+sub-rest c = search needs
 
-is-spelt-requires : tie.Need-is-spelt-requires
-is-spelt-requires c κs = search needs
+part-rest-start : tie.Need-part-rest-start
+part-rest-start c = search needs
 
-is-spelt-requires-2 : tie.Need-is-spelt-requires-2
-is-spelt-requires-2 c κs = search needs
+part-rest-end : tie.Need-part-rest-end
+part-rest-end c = search needs
+
+width-requires-2 : tie.Need-width-requires-2
+width-requires-2 c κs = search needs
 
 returns-2 : tie.Need-returns-2
-unfolding saturatedPair pairOf
+unfolding saturatedPair
 returns-2 c =
-    let n = c .before .before .before .before in
-    rw (← n .before .before .before .count-fields .ensures, eq-eqb _ 3 (n .before .before .if1 .left), spelt-as _ (n .before .number-at .ensures) (c .before .before .before .is-spelt .ensures) (c .before .before .if2 .taken), spelt-as _ (n .number-at2 .ensures) (c .before .is-spelt2 .ensures) (c .if3 .taken), n .before .number-at .ensures, n .number-at2 .ensures)
+    let b = behind _ _ (c .before .before .before .before .width .ensures .1) (omega arith) in
+    rw (pair-two b (omega arith))
+
+add-last : tie.Need-add-last
+add-last c = search needs
+
+sub-last : tie.Need-sub-last
+sub-last c = search needs
+
+part-last-start : tie.Need-part-last-start
+part-last-start c = search needs
+
+part-last-end : tie.Need-part-last-end
+part-last-end c = search needs
+
+width-requires-3 : tie.Need-width-requires-3
+width-requires-3 c κs = search needs
 
 returns-3 : tie.Need-returns-3
-unfolding saturatedPair pairOf
+unfolding saturatedPair
 returns-3 c =
-    let n = c .before .before .before .before in
-    rw (← n .before .before .before .count-fields .ensures, eq-eqb _ 3 (n .before .before .if1 .left), spelt-as _ (n .before .number-at .ensures) (c .before .before .before .is-spelt .ensures) (c .before .before .if2 .taken), spelt-as _ (n .number-at2 .ensures) (c .before .is-spelt2 .ensures) (c .if3 .left))
+    let b = behind _ _ (c .before .before .before .before .before .before .before .width .ensures .1) (omega arith) in
+    let d = behind _ _ (c .before .before .before .before .width2 .ensures .1) (omega arith) in
+    rw (pair-more b d (omega arith))
+
+slice-aggregate-decimal : tie.Need-slice-aggregate-decimal
+slice-aggregate-decimal c = sym (length-take-le _ _ (c .before .before .before .before .before .width2 .ensures .0))
+
+decimal-requires : tie.Need-decimal-requires
+decimal-requires c κs = search needs
+
+decimal-requires-2 : tie.Need-decimal-requires-2
+decimal-requires-2 c κs = search needs
+
+both-requires : tie.Need-both-requires
+both-requires c κs = search needs
 
 returns-4 : tie.Need-returns-4
-unfolding saturatedPair pairOf
 returns-4 c =
-    let n = c .before .before in
-    rw (← n .before .before .before .count-fields .ensures, eq-eqb _ 3 (n .before .before .if1 .left), spelt-as _ (n .before .number-at .ensures) (c .before .is-spelt .ensures) (c .if2 .left))
+    let n = c .before .before .before .before .before .before .before .before in
+    let b = behind _ _ (n .before .before .before .width .ensures .1) (omega arith) in
+    let d = behind _ _ (n .width2 .ensures .1) (omega arith) in
+    rw (pair-three b d (omega arith), both-held, first-take, ← n .width2 .ensures .1, ← c .before .before .decimal .ensures, ← c .before .decimal2 .ensures)
+    (c .both .ensures)
 
 pub pair-of-spec : {M : Type 1} → statement M
 pair-of-spec =
     tie.close
     (tie.spec
-    count-fields-requires
+    width-requires
     returns
-    number-at-requires
-    number-at-requires-2
-    is-spelt-requires
-    is-spelt-requires-2
+    add-rest
+    sub-rest
+    part-rest-start
+    part-rest-end
+    width-requires-2
     returns-2
+    add-last
+    sub-last
+    part-last-start
+    part-last-end
+    width-requires-3
     returns-3
+    slice-aggregate-decimal
+    decimal-requires
+    decimal-requires-2
+    both-requires
     returns-4)

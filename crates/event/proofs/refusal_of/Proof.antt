@@ -1,0 +1,19 @@
+use mathlib.Core.Path.{sym, _∙_}
+use borrow.Author.Needs.{needs}
+use Rattle.event.specs.Event.{refusalOf}
+use Rattle.event.proofs.refusal_of.Statement.{statement}
+use Rattle.event.proofs.refusal_of.Tie as tie
+
+event-in-requires : tie.Need-event-in-requires
+event-in-requires c κs = search needs
+
+returns : tie.Need-returns
+unfolding refusalOf
+returns c = rw (sym (c .before .event-in .ensures) ∙ c .if1 .taken)
+
+returns-2 : tie.Need-returns-2
+unfolding refusalOf
+returns-2 c = rw (sym (c .before .event-in .ensures) ∙ c .if1 .left)
+
+pub refusal-of-spec : {M : Type 1} → statement M
+refusal-of-spec = tie.close (tie.spec event-in-requires returns returns-2)

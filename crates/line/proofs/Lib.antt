@@ -1,2 +1,0 @@
--- What the proofs of a line cite.
-pub mod Settled
