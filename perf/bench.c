@@ -208,10 +208,7 @@ static int hotter(int a, int b) { return a == MISSING || b == MISSING ? MISSING 
 static int reached(const struct chip *c, int table, int unit, int h)
 {
     int n = 0, threshold = 2 * c->s.base[table];
-    for (int k = 0; k < 12; k++) {
-        threshold += unit * c->s.offset[table / 2][k];
-        if (threshold <= h) n++;
-    }
+    while (n < 12 && (threshold += unit * c->s.offset[table / 2][n]) <= h) n++; // offsets are never negative
     return n;
 }
 
@@ -289,49 +286,45 @@ static void tick(struct chip *c, int output[2])
     }
 }
 
-// ---- lines
-
-struct part {
-    const unsigned char *at;
-    int len;
-};
+// ---- lines, each with its line feed at the end; a field is read with the tab before it
 
 enum { WRONG = -2000000, DASH = MISSING, FAR = 1000000 };
 
-// a decimal, capped at one million either way; DASH for "-"; WRONG
-static int decimal(struct part p)
+// a decimal, kept under one million either way; DASH for "-"; WRONG
+static int decimal(const unsigned char **at)
 {
-    int sign = 1, i = 0, v = 0;
-    if (p.len == 0) return WRONG;
-    if (p.at[0] == '-') {
-        if (p.len == 1) return DASH;
-        sign = -1;
-        i = 1;
-    }
-    if (p.at[i] == '0' && (p.len > i + 1 || sign < 0)) return WRONG;
-    for (; i < p.len; i++) {
-        if (p.at[i] < '0' || p.at[i] > '9') return WRONG;
-        v = 10 * v + (p.at[i] - '0');
+    const unsigned char *p = *at;
+    if (*p++ != '\t') return WRONG;
+    int minus = *p == '-', v = 0;
+    const unsigned char *first = p += minus;
+    for (; *p >= '0' && *p <= '9'; p++) {
+        v = 10 * v + (*p - '0');
         if (v >= FAR) v = FAR - 1;
     }
-    return sign * v;
+    *at = p;
+    if (p == first) return minus ? DASH : WRONG;
+    if (*first == '0' && (minus || p > first + 1)) return WRONG;
+    return minus ? -v : v;
 }
 
 static int digit(int b) { return b >= '0' && b <= '9' ? b - '0' : b >= 'A' && b <= 'F' ? b - 'A' + 10 : -1; }
 
-static int hex_byte(struct part p)
+static int hex_byte(const unsigned char **at)
 {
-    if (p.len != 2 || digit(p.at[0]) < 0 || digit(p.at[1]) < 0) return WRONG;
-    return 16 * digit(p.at[0]) + digit(p.at[1]);
+    const unsigned char *p = *at;
+    if (p[0] != '\t' || digit(p[1]) < 0 || digit(p[2]) < 0) return WRONG;
+    *at += 3;
+    return 16 * digit(p[1]) + digit(p[2]);
 }
 
-static int within(int v, int low, int high) { return v != DASH && v >= low && v <= high; }
+static int within(int v, int low, int high) { return v >= low && v <= high; }
 
-static int parse_setup(const struct part *f, struct setup *s)
+static int parse_setup(const unsigned char *at, struct setup *s)
 {
     int n[59], k = 0, bad = 0;
     for (int i = 0; i < 59; i++)
-        if ((n[i] = decimal(f[i + 1])) == WRONG) return 4;
+        if ((n[i] = decimal(&at)) == WRONG) return 4;
+    if (*at != '\n') return 4;
 #define TAKE(field, low, high, none) (bad |= !(within(n[k], low, high) || (none && n[k] == DASH)), field = n[k++])
     TAKE(s->level, 0, 2, 0);
     for (int i = 0; i < 4; i++) TAKE(s->base[i], -127, 127, 0);
@@ -377,20 +370,13 @@ static void put_number(unsigned long n)
 // takes a line and prints its answer, or gives its refusal
 static int take_line(struct chip *c, int *begun, const unsigned char *line, int len)
 {
-    struct part f[62];
-    int fields = 0, from = 0, a, r, b, i, v;
+    const unsigned char *at = line + 1;
+    int a, r, b, i, v;
     if (len > 512) return 4;
-    for (int at = 0; at <= len; at++)
-        if (at == len || line[at] == '\t') {
-            if (fields < 62) f[fields] = (struct part){line + from, at - from};
-            fields++;
-            from = at + 1;
-        }
-    if (f[0].len != 1) return 4;
-    switch (f[0].at[0]) {
+    switch (line[0]) {
     case 'S': {
         struct setup s;
-        int refusal = fields == 60 ? parse_setup(f, &s) : 4;
+        int refusal = parse_setup(at, &s);
         if (refusal == 4) return 4;
         if (*begun) return 3;
         if (refusal) return refusal;
@@ -398,14 +384,14 @@ static int take_line(struct chip *c, int *begun, const unsigned char *line, int 
         break;
     }
     case 'T': case 'V': case 'F': case 'H':
-        if (fields != 3 || (i = decimal(f[1])) == WRONG || (v = decimal(f[2])) == WRONG) return 4;
-        if (f[0].at[0] == 'T') {
+        if ((i = decimal(&at)) == WRONG || (v = decimal(&at)) == WRONG || *at != '\n') return 4;
+        if (line[0] == 'T') {
             if (!within(i, 1, 5) || !(v == DASH || within(v, -254, 255))) return 2;
             take_temperature(c, i - 1, v);
-        } else if (f[0].at[0] == 'V') {
+        } else if (line[0] == 'V') {
             if (!within(i, 1, 16) || !(v == DASH || within(v, 0, 255))) return 2;
             take_volt(c, i - 1, v);
-        } else if (f[0].at[0] == 'F') {
+        } else if (line[0] == 'F') {
             if (!within(i, 1, 4) || !(v == DASH || within(v, 0, 16383))) return 2;
             take_fan(c, i - 1, v);
         } else {
@@ -414,12 +400,12 @@ static int take_line(struct chip *c, int *begun, const unsigned char *line, int 
         }
         break;
     case 'A':
-        if (fields != 2 || (v = decimal(f[1])) == WRONG) return 4;
+        if ((v = decimal(&at)) == WRONG || *at != '\n') return 4;
         if (!within(v, 0, 2)) return 2;
         c->level = v;
         break;
     case 'K':
-        if (fields != 1) return 4;
+        if (*at != '\n') return 4;
         {
             int output[2];
             tick(c, output);
@@ -434,11 +420,11 @@ static int take_line(struct chip *c, int *begun, const unsigned char *line, int 
         }
         break;
     case 'X':
-        if (fields != 1) return 4;
+        if (*at != '\n') return 4;
         reset_pin(c);
         break;
     case 'W':
-        if (fields != 4 || (a = hex_byte(f[1])) == WRONG || (r = hex_byte(f[2])) == WRONG || (b = hex_byte(f[3])) == WRONG) return 4;
+        if ((a = hex_byte(&at)) == WRONG || (r = hex_byte(&at)) == WRONG || (b = hex_byte(&at)) == WRONG || *at != '\n') return 4;
         if (a > 0x7F) return 2;
         v = transact(c, a);
         if (v) write_register(c, r, b);
@@ -447,7 +433,7 @@ static int take_line(struct chip *c, int *begun, const unsigned char *line, int 
         put_char('\n');
         break;
     case 'R':
-        if (fields != 3 || (a = hex_byte(f[1])) == WRONG || (r = hex_byte(f[2])) == WRONG) return 4;
+        if ((a = hex_byte(&at)) == WRONG || (r = hex_byte(&at)) == WRONG || *at != '\n') return 4;
         if (a > 0x7F) return 2;
         v = transact(c, a);
         put_char('R');
@@ -479,7 +465,7 @@ static void give(struct chip *c, int *begun, const unsigned char *line, int len,
 
 int main(void)
 {
-    static unsigned char in[1 << 14], kept[513];
+    static unsigned char in[1 << 14], kept[514];
     static struct chip c;
     int have = 0, begun = 0;
     unsigned long number = 1;
@@ -500,6 +486,7 @@ int main(void)
                 ssize_t room = 513 - have, add = end - i < room ? end - i : room;
                 memcpy(kept + have, in + i, add);
                 have += add;
+                kept[have] = '\n';
                 if (feed) {
                     give(&c, &begun, kept, have, number++);
                     have = 0;
