@@ -15,13 +15,10 @@ use Rattle.state.specs.declared.Count.the-variants.{Taken, Missing}
 use Rattle.state.specs.Parts.{registerAt, zoneAt, voltAt, fanAt}
 use Rattle.state.specs.With.{withPin, withRegister, withZone, withVolt, withFan}
 use Rattle.state.specs.PowerOn.{defaultSetup, powerOn, atRest}
-use Rattle.bus.specs.declared.Shown.the-variants.{Byte, NoByte}
-use Rattle.bus.specs.Latch.{latchBy, latchAfter, isOurs, transacted}
-use Rattle.bus.specs.Write.{storedByte, stored, clearedByte, cleared, zoneWritable, wroteWhole, wroteHalf, wroteKind, isShut, wroteHome, wroteRegister}
-use Rattle.bus.specs.Read.{voltByte, fanWord, halfByte, shownKind, shownHome, shownRegister, readByte}
-
-abbrev pub fresh : Chip
-fresh = powerOn defaultSetup
+use Rattle.state.specs.Made.{fresh}
+use Rattle.bus.specs.Latch.{latchBy, latchAfter, transactedPin, isOurs, transacted}
+use Rattle.bus.specs.Write.{storedByte, stored, clearedByte, cleared, zoneWritable, changeWhole, changeHalf, changeKind, isShut, changeHome, changeOf, changed, wroteRegister}
+use Rattle.bus.specs.Read.{voltByte, fanWord, halfByte, shownKind, shownHome, shownRegister, Byte, NoByte, readByte}
 
 -- the chip with the pin at a level
 abbrev pub atLevel : Chip → ℕ → Chip
@@ -29,7 +26,7 @@ atLevel c level = withPin c (record { level = level; latch = c .pin .latch })
 
 -- "after R 2F 00 and A 1, R 2C 00 is still acknowledged"; without the first, A 1 makes 2Eh ours; an address of another family latches nothing
 pub latch : (readByte (atLevel (readByte fresh 0x2F 0x00 .chip) 1) 0x2C 0x00 .shown ≡ Byte 0x00) × (readByte (atLevel fresh 1) 0x2C 0x00 .shown ≡ NoByte) × (readByte (atLevel fresh 1) 0x2E 0x3F .shown ≡ Byte 0x79) × (readByte (atLevel (readByte fresh 0x50 0x00 .chip) 1) 0x2C 0x00 .shown ≡ NoByte) × (readByte (atLevel fresh 2) 0x2D 0x3E .shown ≡ Byte 0x01)
-unfolding readByte transacted latchAfter latchBy isOurs slaveAddress shownRegister shownHome shownKind registerAt kindOf homeOf homes powerOn atRest defaultSetup defaults
+unfolding readByte transacted transactedPin latchAfter latchBy isOurs slaveAddress shownRegister shownHome shownKind registerAt kindOf homeOf homes powerOn atRest defaultSetup defaults
 latch = (refl, refl, refl, refl, refl)
 
 -- at power-on every reading shows its missing mark: zones 80h with half bit 0, at either address, voltages 00h, fans FCh and FFh
@@ -51,10 +48,10 @@ unfoldable pub zoneThree : Reading → Chip
 zoneThree r = withZone (withRegister fresh 0x31 0x10) 4 r
 
 pub zone-writes : (zoneAt (written 0x52 0x20 fresh) 4 ≡ reading.Missing) × (zoneAt (written 0x52 0x20 (zoneThree (reading.Taken (pos 33)))) 4 ≡ reading.Taken (pos 64)) × (zoneAt (written 0x21 0xFF (zoneThree (reading.Taken (pos 33)))) 4 ≡ reading.Taken (negsuc 1)) × (zoneAt (written 0x20 0xFF (zoneThree (reading.Taken (negsuc 1)))) 4 ≡ reading.Taken (negsuc 0)) × (zoneAt (written 0x52 0x80 (zoneThree (reading.Taken (pos 33)))) 4 ≡ reading.Missing) × (zoneAt (written 0x20 0x80 (zoneThree reading.Missing)) 4 ≡ reading.Missing) × (zoneAt (written 0x53 0x81 fresh) 5 ≡ reading.Taken (negsuc 253)) × (zoneAt (written 0x53 0x81 (withRegister fresh 0x31 0x02)) 5 ≡ reading.Missing) × (zoneAt (written 0x50 0x20 fresh) 0 ≡ reading.Missing)
-unfolding written zoneThree wroteRegister wroteHome wroteKind isShut wroteWhole wroteHalf zoneWritable withRegister withZone zoneAt registerAt readingOf degreesOf withHalf isSet lockMarked lockMarks kindOf homeOf homes powerOn atRest defaultSetup defaults
+unfolding written zoneThree wroteRegister changed changeOf changeHome changeKind isShut changeWhole changeHalf zoneWritable withRegister withZone zoneAt registerAt readingOf degreesOf withHalf isSet lockMarked lockMarks kindOf homeOf homes powerOn atRest defaultSetup defaults
 zone-writes = (refl, refl, refl, refl, refl, refl, refl, refl, refl)
 
 -- only writable bits are stored; a written 1 clears an error bit and a 0 keeps it; LOCK can be set, cannot be cleared and keeps marked registers
 pub plain-writes : (registerAt (written 0x33 0xFF fresh) 0x33 ≡ 0xF8) × (registerAt (written 0x3F 0x00 fresh) 0x3F ≡ 0x79) × (registerAt (written 0x41 0x05 (withRegister fresh 0x41 0x07)) 0x41 ≡ 0x02) × (registerAt (written 0xE3 0x00 (written 0xE3 0x02 fresh)) 0xE3 ≡ 0x02) × (registerAt (written 0xBF 0x11 (written 0xE3 0x02 fresh)) 0xBF ≡ 0x00) × (registerAt (written 0x90 0x11 (written 0xE3 0x02 fresh)) 0x90 ≡ 0x11) × (registerAt (written 0x24 0xFF fresh) 0x24 ≡ 0x00)
-unfolding written wroteRegister wroteHome wroteKind isShut stored storedByte cleared clearedByte withRegister registerAt isSet writableOf writables lockMarked lockMarks kindOf homeOf homes powerOn atRest defaultSetup defaults
+unfolding written wroteRegister changed changeOf changeHome changeKind isShut stored storedByte cleared clearedByte withRegister registerAt isSet writableOf writables lockMarked lockMarks kindOf homeOf homes powerOn atRest defaultSetup defaults
 plain-writes = (refl, refl, refl, refl, refl, refl, refl)

@@ -8,7 +8,6 @@ use Rattle.laws.specs.Pick.{pick}
 use Rattle.map.specs.declared.Kind.{Kind}
 use Rattle.map.specs.declared.Kind.the-variants.{Plain, Status, Whole, Half, Volt, FanLow, FanHigh, VoltLow, VoltHigh, FanLimitLow, FanLimitHigh}
 use Rattle.map.specs.Names.{TEMPERATURE-SOURCE-SELECT, CONFIGURATION, HALF}
-use Rattle.map.specs.Map.{homeOf}
 use Rattle.map.specs.Bits.{isSet}
 use Rattle.map.specs.Kind.{kindOf}
 use Rattle.temperature.specs.declared.Reading.{Reading}
@@ -18,27 +17,29 @@ use Rattle.state.specs.declared.Zone.{Zone}
 use Rattle.state.specs.declared.Latch.{Latch}
 use Rattle.state.specs.Parts.{registerAt, zoneAt}
 use Rattle.state.specs.With.{withRegisters, withZones, withPin, withRegister, withZone}
-use Rattle.bus.specs.Write.{stored, cleared, zoneWritable, wroteWhole, wroteHalf, wroteKind, isShut, wroteHome, wroteRegister}
+use Rattle.bus.specs.declared.Change.{Change}
+use Rattle.bus.specs.declared.Change.the-variants.{Nothing, Register, ZoneReading}
+use Rattle.bus.specs.Write.{stored, cleared, zoneWritable, changeWhole, changeHalf, changeKind, isShut, changeHome, changeOf, changed, wroteRegister}
 
 -- ---- a write at a home: nothing, one register stored or cleared, or one zone's reading
 
-pub data Change (c : Chip) (a byte : ℕ) : Chip → Type 0 where
-  none : Change c a byte c
-  store : isShut (registerAt c CONFIGURATION) a ≡ false → (kindOf a ≡ Status → ⊥) → Change c a byte (stored c a byte)
-  clear : isShut (registerAt c CONFIGURATION) a ≡ false → kindOf a ≡ Status → Change c a byte (cleared c a byte)
-  zone : (i : ℕ) (r : Reading) → Change c a byte (withZone c i r)
+pub data Allowed (c : Chip) (a byte : ℕ) : Change → Type 0 where
+  none : Allowed c a byte Nothing
+  store : isShut (registerAt c CONFIGURATION) a ≡ false → (kindOf a ≡ Status → ⊥) → Allowed c a byte (stored c a byte)
+  clear : isShut (registerAt c CONFIGURATION) a ≡ false → kindOf a ≡ Status → Allowed c a byte (cleared c a byte)
+  zone : (i : ℕ) (r : Reading) → Allowed c a byte (ZoneReading i r)
 
 -- two constructors that `cc` finds equal
 pub never : _≡_ {A = ℕ} 0 1 → ⊥
 never e = omega arith
 
 module _ (c : Chip) (a byte : ℕ) where
-  zone-if : (t : Bool) (i : ℕ) (r : Reading) → Change c a byte (pick t (withZone c i r) c)
+  zone-if : (t : Bool) (i : ℕ) (r : Reading) → Allowed c a byte (pick t (ZoneReading i r) Nothing)
   zone-if true i r = zone i r
   zone-if false i r = none
 
-  by-kind : isShut (registerAt c CONFIGURATION) a ≡ false → (k : Kind) → kindOf a ≡ k → Change c a byte (wroteKind c a byte k)
-  unfolding wroteKind wroteWhole wroteHalf
+  by-kind : isShut (registerAt c CONFIGURATION) a ≡ false → (k : Kind) → kindOf a ≡ k → Allowed c a byte (changeKind c a byte k)
+  unfolding changeKind changeWhole changeHalf
   by-kind f Plain e = store f (λ s. never (cc))
   by-kind f Status e = clear f e
   by-kind f (Whole i) e = zone-if (zoneWritable (registerAt c TEMPERATURE-SOURCE-SELECT) i) i (readingOf byte)
@@ -52,11 +53,11 @@ module _ (c : Chip) (a byte : ℕ) where
   by-kind f (FanLimitHigh i) e = store f (λ s. never (cc))
 
   -- every write is one of these
-  pub wrote-change : Change c a byte (wroteHome c a byte)
-  unfolding wroteHome
-  wrote-change = go (isShut (registerAt c CONFIGURATION) a) refl
+  pub change-allowed : Allowed c a byte (changeHome c a byte)
+  unfolding changeHome
+  change-allowed = go (isShut (registerAt c CONFIGURATION) a) refl
     where
-      go : (t : Bool) → isShut (registerAt c CONFIGURATION) a ≡ t → Change c a byte (pick t c (wroteKind c a byte (kindOf a)))
+      go : (t : Bool) → isShut (registerAt c CONFIGURATION) a ≡ t → Allowed c a byte (pick t Nothing (changeKind c a byte (kindOf a)))
       go true e = none
       go false e = by-kind e (kindOf a) refl
 
@@ -88,26 +89,24 @@ kept-on p q = record {
   drive = q .drive ∙ p .drive;
 }
 
-change-kept : (c : Chip) {a byte : ℕ} {d : Chip} → Change c a byte d → Kept c d
-unfolding stored cleared withRegister withZone
-change-kept c none = kept-but c _ _ _
-change-kept c (store f s) = kept-but c _ _ _
-change-kept c (clear f s) = kept-but c _ _ _
-change-kept c (zone i r) = kept-but c _ _ _
+change-kept : (c : Chip) (d : Change) → Kept c (changed c d)
+unfolding changed withRegister withZone
+change-kept c Nothing = kept-but c _ _ _
+change-kept c (Register a byte) = kept-but c _ _ _
+change-kept c (ZoneReading i r) = kept-but c _ _ _
 
-change-pin : (c : Chip) {a byte : ℕ} {d : Chip} → Change c a byte d → d .pin ≡ c .pin
-unfolding stored cleared withRegister withZone
-change-pin c none = refl
-change-pin c (store f s) = refl
-change-pin c (clear f s) = refl
-change-pin c (zone i r) = refl
+change-pin : (c : Chip) (d : Change) → changed c d .pin ≡ c .pin
+unfolding changed withRegister withZone
+change-pin c Nothing = refl
+change-pin c (Register a byte) = refl
+change-pin c (ZoneReading i r) = refl
 
 -- a write to a register keeps the setup, the voltages, the fan counts, the hot inputs, the pin's level and the drive
 pub register-keeps : (c : Chip) (a byte : ℕ) → Kept c (wroteRegister c a byte)
 unfolding wroteRegister
-register-keeps c a byte = change-kept c (wrote-change c (homeOf a) byte)
+register-keeps c a byte = change-kept c (changeOf c a byte)
 
 -- and the pin with its latch
 pub register-keeps-pin : (c : Chip) (a byte : ℕ) → wroteRegister c a byte .pin ≡ c .pin
 unfolding wroteRegister
-register-keeps-pin c a byte = change-pin c (wrote-change c (homeOf a) byte)
+register-keeps-pin c a byte = change-pin c (changeOf c a byte)

@@ -7,9 +7,11 @@ use lib.Dec.{ltb}
 use lib.ListN.{length, drop, getD}
 use Rattle.laws.specs.Pick.{pick}
 use Rattle.laws.specs.Tab.{tab, tab-at}
+use Rattle.laws.specs.TabEach.{tab-same}
 use Rattle.state.specs.declared.Chip.{Chip}
+use Rattle.state.specs.Made.{ofReadings}
 use Rattle.bus.specs.declared.Dumped.{Dumped}
-use Rattle.bus.specs.Read.{shownRegister}
+use Rattle.bus.specs.Read.{shownRegister, shown-by-parts}
 
 unfoldable pub shownAll : Chip → List ℕ
 shownAll c = tab (shownRegister c) 256
@@ -25,3 +27,8 @@ dumpedInto c out = pick (ltb (length out) 256) out (shownAll c ++ drop 256 out)
 pub shown-at : (c : Chip) (k : ℕ) → k < 256 → getD (shownAll c) k 0 ≡ shownRegister c k
 unfolding shownAll
 shown-at c k h = tab-at (shownRegister c) 256 k 0 h
+
+-- the parts that a dump looks at: the registers and the readings
+pub dumped-by-parts : (c : Chip) (out : List ℕ) → dumpedInto (ofReadings (c .registers) (c .zones) (c .volts) (c .fans)) out ≡ dumpedInto c out
+unfolding dumpedInto shownAll
+dumped-by-parts c out = rw (tab-same _ _ 256 (λ k l. shown-by-parts c k))

@@ -19,6 +19,10 @@ latchBy (Held ours) level address = Held ours
 unfoldable pub latchAfter : Pin → ℕ → Latch
 latchAfter p address = latchBy (p .latch) (p .level) address
 
+-- the pin as a transaction leaves it
+unfoldable pub transactedPin : Pin → ℕ → Pin
+transactedPin p address = record { level = p .level; latch = latchAfter p address }
+
 -- the latched address is the transaction's
 unfoldable pub isOurs : Latch → ℕ → Bool
 isOurs Open address = false
@@ -26,4 +30,4 @@ isOurs (Held ours) address = eqb ours address
 
 -- the chip as the transaction finds it, its latch set
 unfoldable pub transacted : Chip → ℕ → Chip
-transacted c address = withPin c (record { level = c .pin .level; latch = latchAfter (c .pin) address })
+transacted c address = withPin c (transactedPin (c .pin) address)

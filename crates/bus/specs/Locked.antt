@@ -14,8 +14,9 @@ use Rattle.state.specs.declared.Chip.{Chip}
 use Rattle.state.specs.Parts.{registerAt}
 use Rattle.state.specs.With.{withRegister, withZone}
 use Rattle.bus.specs.Latch.{transacted}
-use Rattle.bus.specs.Write.{stored, cleared, isShut, wroteRegister}
-use Rattle.bus.specs.Changes.{Change, none, store, clear, zone, never, wrote-change}
+use Rattle.bus.specs.declared.Change.{Change}
+use Rattle.bus.specs.Write.{stored, cleared, isShut, changeOf, changed, wroteRegister}
+use Rattle.bus.specs.Changes.{Allowed, none, store, clear, zone, never, change-allowed}
 use Rattle.bus.specs.Transactions.{Transaction, afterAll, all-keep}
 
 both-yes : (s t : Bool) → T s → T t → both s t ≡ false → ⊥
@@ -31,8 +32,8 @@ module _ (c : Chip) (locked : T (isSet (registerAt c CONFIGURATION) LOCK)) where
   unfolding isShut
   open-other a k f marked e = both-yes (lockMarked a) _ (rw e at marked) locked f
 
-  change-keeps : {a byte : ℕ} {d : Chip} → Change c a byte d → (k : ℕ) → T (lockMarked k) → registerAt d k ≡ registerAt c k
-  unfolding registerAt withRegister withZone stored cleared
+  change-keeps : {a byte : ℕ} {d : Change} → Allowed c a byte d → (k : ℕ) → T (lockMarked k) → registerAt (changed c d) k ≡ registerAt c k
+  unfolding changed registerAt withRegister withZone stored cleared
   change-keeps none k marked = refl
   change-keeps {a} (store f s) k marked = getD-set-other (c .registers) a k _ 0 (open-other a k f marked)
   change-keeps {a} (clear f s) k marked = getD-set-other (c .registers) a k _ 0 (open-other a k f marked)
@@ -40,8 +41,8 @@ module _ (c : Chip) (locked : T (isSet (registerAt c CONFIGURATION) LOCK)) where
 
   -- while LOCK is set, no write changes a lock-marked register
   pub locked-keeps : (a byte k : ℕ) → T (lockMarked k) → registerAt (wroteRegister c a byte) k ≡ registerAt c k
-  unfolding wroteRegister
-  locked-keeps a byte k marked = change-keeps (wrote-change c (homeOf a) byte) k marked
+  unfolding wroteRegister changeOf
+  locked-keeps a byte k marked = change-keeps (change-allowed c (homeOf a) byte) k marked
 
   -- so no write clears LOCK
   pub locked-stays : (a byte : ℕ) → T (isSet (registerAt (wroteRegister c a byte) CONFIGURATION) LOCK)

@@ -4,12 +4,12 @@ use Prim.Native.Nat.{ℕ, _<_}
 use Rattle.map.specs.Map.{homeOf}
 use Rattle.map.specs.Laws.{home-home}
 use Rattle.state.specs.declared.Chip.{Chip}
-use Rattle.bus.specs.Write.{wroteRegister}
+use Rattle.bus.specs.Write.{changeOf, wroteRegister}
 use Rattle.bus.specs.Read.{shownRegister}
 
 -- a write to a mirror is the write to its home
 pub mirror-write : (c : Chip) (a byte : ℕ) → a < 256 → wroteRegister c a byte ≡ wroteRegister c (homeOf a) byte
-unfolding wroteRegister
+unfolding wroteRegister changeOf
 mirror-write c a byte h = rw (home-home a h)
 
 -- a mirror shows what its home shows

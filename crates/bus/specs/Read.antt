@@ -1,4 +1,5 @@
 -- Document 01, "The register map" and "Bus answers": what byte reads show. Assumes nothing.
+use mathlib.Core.Path.{_≡_, refl}
 use Prim.Native.Nat.{ℕ, _*_, _/_, _%_}
 use Rattle.laws.specs.Pick.{pick}
 use Rattle.map.specs.declared.Kind.{Kind}
@@ -12,9 +13,9 @@ use Rattle.state.specs.declared.Chip.{Chip}
 use Rattle.state.specs.declared.Count.{Count}
 use Rattle.state.specs.declared.Count.the-variants.{Taken, Missing}
 use Rattle.state.specs.Parts.{registerAt, zoneAt, voltAt, fanAt}
-use Rattle.bus.specs.declared.Seen.{Seen}
-use Rattle.bus.specs.declared.Shown.the-variants.{Byte, NoByte}
-use Rattle.bus.specs.Latch.{isOurs, transacted}
+use Rattle.state.specs.With.{withPin}
+use Rattle.state.specs.Made.{ofReadings}
+use Rattle.bus.specs.Latch.{transactedPin, isOurs, transacted}
 
 -- "Missing shows 00h for a voltage and 3FFFh for a fan."
 unfoldable pub voltByte : Count → ℕ
@@ -50,8 +51,47 @@ shownHome c a = shownKind c a (kindOf a)
 unfoldable pub shownRegister : Chip → ℕ → ℕ
 shownRegister c a = shownHome c (homeOf a)
 
+-- what a byte read shows: nothing where it is not acknowledged
+pub data Shown : Type 0 where
+  NoByte : Shown
+  Byte : ℕ → Shown
+
+pub record Seen : Type 0 where
+  pub chip : Chip
+  pub shown : Shown
+
 unfoldable pub readByte : Chip → ℕ → ℕ → Seen
 readByte c address a =
     pick (isOurs (transacted c address .pin .latch) address)
     (record { chip = transacted c address; shown = Byte (shownRegister (transacted c address) a) })
     (record { chip = transacted c address; shown = NoByte })
+
+-- ---- the parts that a read looks at: the registers and the readings
+
+module _ (c : Chip) where
+  kind-by-parts : (a : ℕ) (k : Kind) → shownKind (ofReadings (c .registers) (c .zones) (c .volts) (c .fans)) a k ≡ shownKind c a k
+  unfolding shownKind registerAt zoneAt voltAt fanAt
+  kind-by-parts a Plain = refl
+  kind-by-parts a Status = refl
+  kind-by-parts a (Whole i) = refl
+  kind-by-parts a (Half i) = refl
+  kind-by-parts a (Volt i) = refl
+  kind-by-parts a (FanLow i) = refl
+  kind-by-parts a (FanHigh i) = refl
+  kind-by-parts a (VoltLow i) = refl
+  kind-by-parts a (VoltHigh i) = refl
+  kind-by-parts a (FanLimitLow i) = refl
+  kind-by-parts a (FanLimitHigh i) = refl
+
+  pub shown-by-parts : (a : ℕ) → shownRegister (ofReadings (c .registers) (c .zones) (c .volts) (c .fans)) a ≡ shownRegister c a
+  unfolding shownRegister shownHome
+  shown-by-parts a = kind-by-parts (homeOf a) (kindOf (homeOf a))
+
+module _ (c : Chip) where
+  -- R on the parts: the pin decides the acknowledgement, the registers and readings the byte
+  pub read-by-parts : (address a : ℕ) → readByte c address a ≡ pick (isOurs (transactedPin (c .pin) address .latch) address) (record { chip = withPin c (transactedPin (c .pin) address); shown = Byte (shownRegister (ofReadings (c .registers) (c .zones) (c .volts) (c .fans)) a) }) (record { chip = withPin c (transactedPin (c .pin) address); shown = NoByte })
+  unfolding readByte transacted
+  read-by-parts address a = rw (← kept)
+    where
+      kept : shownRegister (ofReadings (c .registers) (c .zones) (c .volts) (c .fans)) a ≡ shownRegister (withPin c (transactedPin (c .pin) address)) a
+      kept = shown-by-parts (withPin c (transactedPin (c .pin) address)) a

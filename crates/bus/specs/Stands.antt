@@ -14,8 +14,9 @@ use Rattle.map.specs.Kind.{kindOf}
 use Rattle.state.specs.declared.Chip.{Chip}
 use Rattle.state.specs.Parts.{registerAt}
 use Rattle.state.specs.With.{withRegister, withZone}
-use Rattle.bus.specs.Write.{clearedByte, stored, cleared, wroteRegister}
-use Rattle.bus.specs.Changes.{Change, none, store, clear, zone, wrote-change}
+use Rattle.bus.specs.declared.Change.{Change}
+use Rattle.bus.specs.Write.{clearedByte, stored, cleared, changeOf, changed, wroteRegister}
+use Rattle.bus.specs.Changes.{Allowed, none, store, clear, zone, change-allowed}
 
 -- a written 0 keeps
 pub cleared-keeps : (old writable byte k : ℕ) → byte < 256 → k < 8 → T (isSet old (2 ^ k)) → (T (isSet byte (2 ^ k)) → ⊥) → T (isSet (clearedByte old writable byte) (2 ^ k))
@@ -25,8 +26,8 @@ cleared-keeps old writable byte k b h stands unset =
     rw (stands-without 8 old (2 ^ k) (bitAnd byte writable) (pow-lt h) (omega (arith, and-le-l byte writable)) (eqb→eq _ _ stands) (none-part byte writable (2 ^ k) none)) (eqb-refl (2 ^ k))
 
 module _ (c : Chip) (a byte k : ℕ) (b : byte < 256) (h : k < 8) (status : kindOf a ≡ Status) (stands : T (isSet (registerAt c a) (2 ^ k))) where
-  change-stands : {home : ℕ} {d : Chip} → Change c home byte d → (home ≡ a → T (isSet byte (2 ^ k)) → ⊥) → T (isSet (registerAt d a) (2 ^ k))
-  unfolding registerAt withRegister withZone stored cleared
+  change-stands : {home : ℕ} {d : Change} → Allowed c home byte d → (home ≡ a → T (isSet byte (2 ^ k)) → ⊥) → T (isSet (registerAt (changed c d) a) (2 ^ k))
+  unfolding changed registerAt withRegister withZone stored cleared
   change-stands none unless = stands
   change-stands {home} (store f s) unless =
       set-cases (λ (x : ℕ). T (isSet x (2 ^ k))) (c .registers) home a _ 0 stands (λ e. absurd (s (ap kindOf e ∙ status)))
@@ -36,5 +37,5 @@ module _ (c : Chip) (a byte k : ℕ) (b : byte < 256) (h : k < 8) (status : kind
 
   -- an error bit that stands stays, unless a 1 is written to it, at its own address or a mirror's
   pub error-stays : (address : ℕ) → (homeOf address ≡ a → T (isSet byte (2 ^ k)) → ⊥) → T (isSet (registerAt (wroteRegister c address byte) a) (2 ^ k))
-  unfolding wroteRegister
-  error-stays address unless = change-stands (wrote-change c (homeOf address) byte) unless
+  unfolding wroteRegister changeOf
+  error-stays address unless = change-stands (change-allowed c (homeOf address) byte) unless

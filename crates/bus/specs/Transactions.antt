@@ -8,12 +8,9 @@ use Rattle.state.specs.declared.Chip.{Chip}
 use Rattle.state.specs.declared.Latch.{Latch}
 use Rattle.state.specs.declared.Latch.the-variants.{Held}
 use Rattle.state.specs.With.{withPin}
-use Rattle.bus.specs.declared.Written.{Written}
-use Rattle.bus.specs.declared.Seen.{Seen}
-use Rattle.bus.specs.declared.Shown.the-variants.{Byte, NoByte}
-use Rattle.bus.specs.Latch.{latchBy, latchAfter, isOurs, transacted}
-use Rattle.bus.specs.Write.{wroteRegister, wroteByte}
-use Rattle.bus.specs.Read.{shownRegister, readByte}
+use Rattle.bus.specs.Latch.{latchBy, latchAfter, transactedPin, isOurs, transacted}
+use Rattle.bus.specs.Write.{wroteRegister, Written, wroteByte}
+use Rattle.bus.specs.Read.{shownRegister, Byte, NoByte, Seen, readByte}
 use Rattle.bus.specs.Changes.{Kept, kept-but, kept-self, kept-on, register-keeps, register-keeps-pin}
 
 -- ---- one transaction
@@ -27,7 +24,7 @@ pub record ButLatch (c d : Chip) : Type 0 where
 module _ (c : Chip) (address : ℕ) where
   -- a transaction as such changes nothing but the latch
   pub transacted-keeps : ButLatch c (transacted c address)
-  unfolding transacted
+  unfolding transacted transactedPin
   transacted-keeps = record { kept = kept-but c _ _ _; registers = refl; zones = refl }
 
   -- a read leaves the chip as any transaction does
@@ -77,7 +74,7 @@ module _ (c : Chip) (address : ℕ) where
 
     -- once an address is latched, a transaction as such changes nothing
     pub held-same : transacted c address ≡ c
-    unfolding transacted
+    unfolding transacted transactedPin
     held-same = ap (λ (l : Latch). withPin c (record { level = c .pin .level; latch = l })) latch-stays
 
     -- a latched address stays

@@ -21,7 +21,7 @@ use Rattle.state.proofs.power_on.Reads.{Learnt as power-on-promise}
 use Rattle.state.proofs.zone_at.Reads.{Learnt as zone-at-promise}
 use Rattle.state.proofs.volt_at.Reads.{Learnt as volt-at-promise}
 use Rattle.state.proofs.fan_at.Reads.{Learnt as fan-at-promise}
-use Rattle.state.proofs.with_zone.Reads.{Learnt as with-zone-promise}
+use Rattle.state.proofs.with_reading.Reads.{Learnt as with-reading-promise}
 use Rattle.sense.proofs.mark_missing.Reads.{Learnt as mark-missing-promise}
 use Rattle.sense.proofs.errors_standing.Reads.{Learnt as errors-standing-promise}
 use Rattle.sense.proofs.alert_active.Reads.{Learnt as alert-active-promise}
@@ -31,13 +31,11 @@ use Rattle.sense.proofs.hears_zone.Reads.{Learnt as hears-zone-promise}
 use Rattle.sense.proofs.volt_reading.Reads.{Learnt as volt-reading-promise}
 use Rattle.sense.proofs.feeds_three.Reads.{Learnt as feeds-three-promise}
 use Rattle.sense.proofs.feeds_four.Reads.{Learnt as feeds-four-promise}
-use Rattle.sense.proofs.take_hot.Reads.{Learnt as take-hot-promise}
-use Rattle.sense.proofs.take_pin.Reads.{Learnt as take-pin-promise}
 use Rattle.sense.proofs.take_reset.Reads.{Learnt as take-reset-promise}
-use Rattle.bus.proofs.write_register.Reads.{Learnt as write-register-promise}
-use Rattle.bus.proofs.write_byte.Reads.{Learnt as write-byte-promise}
+use Rattle.bus.proofs.transact.Reads.{Learnt as transact-promise}
+use Rattle.bus.proofs.answers.Reads.{Learnt as answers-promise}
+use Rattle.bus.proofs.change_of.Reads.{Learnt as change-of-promise}
 use Rattle.bus.proofs.show_register.Reads.{Learnt as show-register-promise}
-use Rattle.bus.proofs.read_byte.Reads.{Learnt as read-byte-promise}
 use Rattle.bus.proofs.dump.Reads.{Learnt as dump-promise}
 use Rattle.drive.proofs.followed_zone.Reads.{Learnt as followed-zone-promise}
 use Rattle.drive.proofs.table_of.Reads.{Learnt as table-of-promise}
@@ -52,6 +50,7 @@ use Rattle.drive.proofs.kicked_fan.Reads.{Learnt as kicked-fan-promise}
 use Rattle.drive.proofs.tick.Reads.{Learnt as tick-promise}
 use Rattle.event.proofs.refusal_of.Reads.{Learnt as refusal-of-promise}
 use Rattle.event.proofs.step.Reads.{Learnt as step-promise}
+use Rattle.event.proofs.dump.Reads.{Learnt as event-dump-promise}
 use Rattle.text.proofs.width.Reads.{Learnt as width-promise}
 use Rattle.text.proofs.count_fields.Reads.{Learnt as count-fields-promise}
 use Rattle.text.proofs.field.Reads.{Learnt as field-promise}
@@ -160,12 +159,12 @@ volt-at = determined (λ κs a r e p. p)
 pub fan-at : Result fan-at-promise
 fan-at = determined (λ κs a r e p. p)
 
-pub with-zone : Result with-zone-promise
-with-zone = determined (λ κs a r e p. p)
+pub with-reading : Result with-reading-promise
+with-reading = determined (λ κs a r e p. p)
 
 -- ---- sense: readings, errors and ALERT
 
-pub mark-missing : Result mark-missing-promise
+pub mark-missing : Left mark-missing-promise (λ κs e. now (e .0))
 mark-missing = determined (λ κs a r e p. p)
 
 pub errors-standing : Result errors-standing-promise
@@ -192,30 +191,24 @@ feeds-three = determined (λ κs a r e p. p)
 pub feeds-four : Result feeds-four-promise
 feeds-four = determined (λ κs a r e p. p)
 
-pub take-hot : Result take-hot-promise
-take-hot = determined (λ κs a r e p. p)
-
-pub take-pin : Result take-pin-promise
-take-pin = determined (λ κs a r e p. p)
-
-pub take-reset : Result take-reset-promise
+pub take-reset : Left take-reset-promise (λ κs e. now (e .0))
 take-reset = determined (λ κs a r e p. p)
 
 -- ---- bus: bus answers, and the register dump
 
-pub write-register : Result write-register-promise
-write-register = determined (λ κs a r e p. p)
+pub transact : Result transact-promise
+transact = determined (λ κs a r e p. p)
 
-pub write-byte : Result write-byte-promise
-write-byte = determined (λ κs a r e p. p)
+pub answers : Result answers-promise
+answers = determined (λ κs a r e p. p)
+
+pub change-of : Result change-of-promise
+change-of = determined (λ κs a r e p. p)
 
 pub show-register : Result show-register-promise
 show-register = determined (λ κs a r e p. p)
 
-pub read-byte : Result read-byte-promise
-read-byte = determined (λ κs a r e p. p)
-
-pub dump : ResultAnd dump-promise (λ κs e. now (e .1 .0))
+pub dump : ResultAnd dump-promise (λ κs e. now (e .1 .1 .1 .1 .0))
 dump = determined (λ κs a r e p. both p)
 
 -- ---- drive: fan duties
@@ -260,6 +253,10 @@ refusal-of = determined (λ κs a r e p. p)
 
 pub step : Result step-promise
 step = determined (λ κs a r e p. p)
+
+-- `dump` of a whole chip
+pub event-dump : ResultAnd event-dump-promise (λ κs e. now (e .1 .0))
+event-dump = determined (λ κs a r e p. both p)
 
 -- ---- text: fields, decimals, bus fields, and answers written into a lent buffer
 

@@ -13,18 +13,18 @@ use Rattle.state.specs.Parts.{registerAt, zoneAt, hotAt}
 use Rattle.state.specs.With.{withRegister, withZone, withHotInput}
 use Rattle.state.specs.PowerOn.{defaultSetup, powerOn, atRest}
 use Rattle.sense.specs.Errors.{withBit, markedVolt, markedFan, lowLimit, highLimit, fanLimit, fanLimitAt}
-use Rattle.sense.specs.Missing.{voltWatched, fanWatched, missedVolt, missedFan, missedVolts, missedFans, missed}
+use Rattle.sense.specs.Missing.{voltWatched, fanWatched, missedVolt, missedFan, missedVolts, missedFans, missedFile, missed}
 use Rattle.sense.specs.Standing.{bitsOf, errorsStanding, alertActive}
-use Rattle.sense.specs.Events.{zoneThreeFed, tookTemperature, tookHot}
-use Rattle.bus.specs.Latch.{latchBy, latchAfter, isOurs, transacted}
-use Rattle.bus.specs.Write.{storedByte, stored, wroteKind, isShut, wroteHome, wroteRegister, wroteByte}
+use Rattle.sense.specs.Events.{zoneThreeFed, zoneHeard, tookTemperature, tookHot}
+use Rattle.bus.specs.Latch.{latchBy, latchAfter, transactedPin, isOurs, transacted}
+use Rattle.bus.specs.Write.{storedByte, stored, changeKind, isShut, changeHome, changeOf, changed, wroteRegister, wroteByte}
 use Rattle.bus.specs.Read.{shownKind, shownHome, shownRegister, readByte}
 use Rattle.drive.specs.Tables.{joinedZone, zoneOne, zoneTwo, followedZone, unitOf, tableOf, sumTo, isReached, thresholdReached, notAbove, settled, newStep, askedDuty}
 use Rattle.drive.specs.Boosts.{isBoosted, isLatched, boostEnabled}
 use Rattle.drive.specs.Ramps.{delayOf, movedLevel, rampedOn}
 use Rattle.drive.specs.Duties.{boundLargest, tablesAsk, fanDuty, loadedStart, kickedFan}
 use Rattle.drive.specs.Tick.{followed, stepAfter, askAfter, stepsAfter, asksAfter, boostAfter, boostsAfter, anyOn, rampAfter, rampsAfter, levelsOf, dutyAfter, dutyOf, kickAfter, driveAfter, outputsAfter, tickedChip}
-use Rattle.event.specs.Event.{indexIn, readingIn, countIn, levelIn, levelOf, quietStep, refusedStep, temperatureStep, hotStep, tickAnswer, tickStep, writtenAnswer, writeStep, seenAnswer, readAnswer, readStep, steppedChip}
+use Rattle.event.specs.Event.{indexIn, readingIn, countIn, levelIn, levelOf, quietStep, refusedStep, eventIn, tickAnswer, writtenAnswer, seenAnswer, readAnswer, takenStep, steppedChip}
 use Rattle.text.specs.Fields.{firstField, otherFields, fieldsOf, fieldAt}
 use Rattle.text.specs.Number.{isDigit, allDigits, valueOf, runOf, plusOf, minusOf, decimalOf, isSpelt}
 use Rattle.text.specs.Hex.{nibbleOf, hexByteOf}
@@ -65,5 +65,5 @@ output =
     ∷ []
 
 pub printed : printedFrom startSession 1 input ≡ output
-unfolding input output firstField otherFields fieldsOf fieldAt isDigit allDigits valueOf runOf plusOf minusOf decimalOf isSpelt nibbleOf hexByteOf digitsText columnText hexDigit hexText digitOf ackText byteText noByteText tickText refusalText letterOf numberAt indexOf readingOf countOf pairOf temperatureLine hotLine aloneLine writeBy writeLine readBy readLine eventOf startSession refusedLine begunLine judgedStep judgedEvent judgedParsed judgedLine answerText printedBy printedFrom steppedChip indexIn readingIn countIn levelIn levelOf quietStep refusedStep temperatureStep hotStep tickAnswer tickStep writtenAnswer writeStep seenAnswer readAnswer readStep tookTemperature zoneThreeFed tookHot missed missedVolts missedFans missedVolt missedFan voltWatched fanWatched lowLimit highLimit fanLimit fanLimitAt markedVolt markedFan withBit errorsStanding bitsOf alertActive wroteByte readByte transacted latchAfter latchBy isOurs slaveAddress wroteRegister wroteHome wroteKind isShut stored storedByte shownRegister shownHome shownKind wholeByte wholeOf byteOf registerAt zoneAt hotAt withRegister withZone withHotInput homeOf homes kindOf writableOf writables lockMarked lockMarks isSet tickedChip driveAfter outputsAfter kickAfter dutyOf dutyAfter levelsOf rampsAfter rampAfter anyOn boostsAfter boostAfter asksAfter stepsAfter askAfter stepAfter followed kickedFan loadedStart fanDuty tablesAsk boundLargest rampedOn movedLevel delayOf isBoosted isLatched boostEnabled askedDuty newStep settled notAbove thresholdReached isReached sumTo tableOf unitOf followedZone zoneOne zoneTwo joinedZone hotterOf countTo powerOn atRest defaultSetup defaults
+unfolding input output firstField otherFields fieldsOf fieldAt isDigit allDigits valueOf runOf plusOf minusOf decimalOf isSpelt nibbleOf hexByteOf digitsText columnText hexDigit hexText digitOf ackText byteText noByteText tickText refusalText letterOf numberAt indexOf readingOf countOf pairOf temperatureLine hotLine aloneLine writeBy writeLine readBy readLine eventOf startSession refusedLine begunLine judgedStep judgedEvent judgedParsed judgedLine answerText printedBy printedFrom steppedChip eventIn takenStep indexIn readingIn countIn levelIn levelOf quietStep refusedStep tickAnswer writtenAnswer seenAnswer readAnswer tookTemperature zoneHeard zoneThreeFed tookHot missed missedFile missedVolts missedFans missedVolt missedFan voltWatched fanWatched lowLimit highLimit fanLimit fanLimitAt markedVolt markedFan withBit errorsStanding bitsOf alertActive wroteByte readByte transacted transactedPin latchAfter latchBy isOurs slaveAddress wroteRegister changed changeOf changeHome changeKind isShut stored storedByte shownRegister shownHome shownKind wholeByte wholeOf byteOf registerAt zoneAt hotAt withRegister withZone withHotInput homeOf homes kindOf writableOf writables lockMarked lockMarks isSet tickedChip driveAfter outputsAfter kickAfter dutyOf dutyAfter levelsOf rampsAfter rampAfter anyOn boostsAfter boostAfter asksAfter stepsAfter askAfter stepAfter followed kickedFan loadedStart fanDuty tablesAsk boundLargest rampedOn movedLevel delayOf isBoosted isLatched boostEnabled askedDuty newStep settled notAbove thresholdReached isReached sumTo tableOf unitOf followedZone zoneOne zoneTwo joinedZone hotterOf countTo powerOn atRest defaultSetup defaults
 printed = refl

@@ -13,14 +13,14 @@ use Rattle.state.specs.declared.Count.the-variants.{Taken}
 use Rattle.state.specs.Parts.{registerAt, zoneAt}
 use Rattle.state.specs.With.{withRegister, withZone}
 use Rattle.state.specs.PowerOn.{defaultSetup, powerOn, atRest}
+use Rattle.state.specs.Made.{fresh}
 use Rattle.sense.specs.Errors.{fanLimit, fanLimitAt}
 use Rattle.sense.specs.Missing.{missed}
 use Rattle.sense.specs.Standing.{errorsStanding}
 use Rattle.sense.specs.Events.{tookVoltage, tookPin, resetFile, tookReset}
 use Rattle.sense.specs.Cases as sense
-use Rattle.bus.specs.declared.Shown.the-variants.{Byte}
 use Rattle.bus.specs.Write.{wroteRegister}
-use Rattle.bus.specs.Read.{readByte}
+use Rattle.bus.specs.Read.{Byte, readByte}
 use Rattle.bus.specs.Cases as bus
 use Rattle.drive.specs.Tables.{tableOf, newStep}
 use Rattle.drive.specs.Cases as drive
@@ -30,10 +30,7 @@ use Rattle.line.specs.Line.{startSession}
 use Rattle.line.specs.Session.{printedFrom}
 use Rattle.determined.specs.Printed.{input, output, printed}
 
--- the chip at power-on without a setup, and with a byte stored at an address
-abbrev pub fresh : Chip
-fresh = powerOn defaultSetup
-
+-- the chip at power-on without a setup, with a byte stored at an address
 abbrev pub freshWith : ℕ → ℕ → Chip
 freshWith a byte = withRegister fresh a byte
 

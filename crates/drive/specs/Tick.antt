@@ -1,4 +1,5 @@
 -- Document 01, "Fan duties": "Only a tick changes them, in this order." Assumes nothing.
+use mathlib.Core.Path.{_≡_, refl}
 use mathlib.Core.Bool.{Bool, false}
 use mathlib.Core.List.{List, [], _∷_}
 use Prim.Native.Nat.{ℕ}
@@ -12,9 +13,10 @@ use Rattle.state.specs.declared.Setup.{Setup}
 use Rattle.state.specs.declared.Ramp.{Ramp}
 use Rattle.state.specs.Parts.{noRamp, noBoost, noOverride, registerAt, zoneAt, hotAt}
 use Rattle.state.specs.With.{withDrive}
+use Rattle.state.specs.Made.{ofDrive, ofTables, ofBoosts, ofRamps, ofKick}
 use Rattle.drive.specs.declared.Ask.{Ask}
 use Rattle.drive.specs.declared.Kick.{Kick}
-use Rattle.drive.specs.declared.Ticked.{Ticked}
+use Rattle.drive.specs.declared.Driven.{Driven}
 use Rattle.drive.specs.Tables.{followedZone, tableOf, newStep, askedDuty}
 use Rattle.drive.specs.Boosts.{isBoosted, boostEnabled}
 use Rattle.drive.specs.Ramps.{delayOf, rampedOn}
@@ -94,5 +96,42 @@ driveAfter c = record {
 unfoldable pub outputsAfter : Chip → List ℕ
 outputsAfter c = kickAfter c 0 (dutyOf c 0) .output ∷ kickAfter c 1 (dutyOf c 1) .output ∷ []
 
+-- what only a tick changes, as the tick leaves it, and its two outputs
+unfoldable pub driven : Chip → Driven
+driven c = record { drive = driveAfter c; outputs = outputsAfter c }
+
+-- the chip after a tick, and its two outputs
+pub record Ticked : Type 0 where
+  pub chip : Chip
+  pub outputs : List ℕ
+
 unfoldable pub tickedChip : Chip → Ticked
 tickedChip c = record { chip = withDrive c (driveAfter c); outputs = outputsAfter c }
+
+-- ---- the parts that a tick looks at
+
+module _ (c : Chip) where
+  -- a table: setup, registers, zones and old steps
+  pub ask-by-parts : (table : ℕ) → askAfter (ofTables (c .setup) (c .registers) (c .zones) (c .drive .steps)) table ≡ askAfter c table
+  unfolding askAfter stepAfter followed registerAt
+  ask-by-parts table = refl
+
+  -- boosts: setup, registers, zones and old boosts
+  pub boosts-by-parts : boostsAfter (ofBoosts (c .setup) (c .registers) (c .zones) (c .drive .boosts)) ≡ boostsAfter c
+  unfolding boostsAfter boostAfter registerAt zoneAt
+  boosts-by-parts = refl
+
+  -- ramps: registers, hot inputs and old ramps
+  pub ramps-by-parts : rampsAfter (ofRamps (c .registers) (c .hot) (c .drive .ramps)) ≡ rampsAfter c
+  unfolding rampsAfter rampAfter registerAt hotAt
+  ramps-by-parts = refl
+
+  -- the kick: setup, old duties and old start counts
+  pub kick-by-parts : (fan duty : ℕ) → kickAfter (ofKick (c .setup) (c .drive .duties) (c .drive .starts)) fan duty ≡ kickAfter c fan duty
+  unfolding kickAfter
+  kick-by-parts fan duty = refl
+
+  -- a tick: setup, registers, zones, hot inputs and what the last tick left
+  pub driven-by-parts : driven (ofDrive (c .setup) (c .registers) (c .zones) (c .hot) (c .drive)) ≡ driven c
+  unfolding driven driveAfter outputsAfter kickAfter dutyOf rampsAfter rampAfter boostsAfter boostAfter asksAfter stepsAfter askAfter stepAfter followed registerAt zoneAt hotAt
+  driven-by-parts = refl

@@ -9,11 +9,11 @@ ghost use Rattle.drive.specs.Tables.{joinedZone, zoneIn, zoneOne, zoneTw
 ghost use Rattle.drive.specs.Boosts.{isLatched, isBoosted, boostEnabled};
 ghost use Rattle.drive.specs.Ramps.{delayOf, movedLevel, rampedOn};
 ghost use Rattle.drive.specs.Duties.{boundLargest, tablesAsk, fanDuty, loadedStart, kickedFan};
-ghost use Rattle.drive.specs.Tick.{askAfter, boostAfter, boostsAfter, anyOn, rampAfter, rampsAfter, levelsOf, dutyAfter, kickAfter, tickedChip};
+ghost use Rattle.drive.specs.Tick.{askAfter, boostAfter, boostsAfter, anyOn, rampAfter, rampsAfter, levelsOf, dutyAfter, kickAfter, driven};
+ghost use Rattle.state.specs.Made.{ofDrive, ofTables, ofBoosts, ofRamps, ofKick};
 use map::bits;
 use map::registers;
 use state::Boost;
-use state::Chip;
 use state::Drive;
 use state::Override;
 use state::Ramp;
@@ -41,9 +41,9 @@ pub struct Kick {
     pub start: u8,
 }
 
-// The chip after a tick, and its two outputs.
-pub struct Ticked {
-    pub chip: Chip,
+// What only a tick changes, as the tick leaves it, and its two outputs.
+pub struct Driven {
+    pub drive: Drive,
     pub outputs: [u16; 2],
 }
 
@@ -121,7 +121,8 @@ fn unit_of(halves: bool) -> u8
 pub fn table_of(setup: Setup, control: u8, table: u8) -> Table
     ensures { λ r. ⌜ r ≡ tableOf setup control table ⌝ }
 {
-    let base = base_of(setup, table);
+    let bases = setup.bases;
+    let base = base_of(bases, table);
     if table < 2 {
         let offsets = setup.offsets12;
         return Table {
@@ -140,11 +141,11 @@ pub fn table_of(setup: Setup, control: u8, table: u8) -> Table
     }
 }
 
-fn base_of(setup: Setup, table: u8) -> i8
-    ensures { λ r. ⌜ r ≡ getD (setup .bases) table (pos 0) ⌝ }
+fn base_of(bases: [i8; 4], table: u8) -> i8
+    ensures { λ r. ⌜ r ≡ getD bases table (pos 0) ⌝ }
 {
     let i = table as usize;
-    if i < 4 { setup.bases[i] } else { 0 }
+    if i < 4 { bases[i] } else { 0 }
 }
 
 // The sums of a table's first one, two, .. twelve offsets.
@@ -389,7 +390,7 @@ fn loaded_start(was: u16, duty: u16, start: u8, start_count: u8) -> u8
     start
 }
 
-// ---- one tick of the chip
+// ---- one tick
 
 // A table's step and the duty it asks for, after a tick.
 pub struct Ask {
@@ -397,19 +398,16 @@ pub struct Ask {
     pub duty: u16,
 }
 
-fn ask_after(chip: Chip, table: u8) -> Ask
+fn ask_after(setup: Setup, file: &[u8; 256], zones: [Zone; 6], steps: [u8; 4], table: u8) -> Ask
     requires { ⌜ table < 4 ⌝ }
-    ensures { λ r. ⌜ r ≡ askAfter chip table ⌝ }
+    ensures { λ r. ⌜ r ≡ askAfter (ofTables setup (now (file .entry)) zones steps) table ⌝ }
 {
-    let zones = chip.zones;
-    let setup = chip.setup;
-    let drive = chip.drive;
-    let source = chip.registers[registers::TEMPERATURE_SOURCE_SELECT as usize];
-    let bindings = chip.registers[registers::FAN_CONTROL_BINDINGS as usize];
-    let control = chip.registers[registers::SPECIAL_FUNCTION_CONTROL_2 as usize];
+    let source = file[registers::TEMPERATURE_SOURCE_SELECT as usize];
+    let bindings = file[registers::FAN_CONTROL_BINDINGS as usize];
+    let control = file[registers::SPECIAL_FUNCTION_CONTROL_2 as usize];
     let reading = followed_zone(zones, source, bindings, table);
-    let old = drive.steps[table as usize];
-    let step = new_step(table_of(setup, control, table), old, reading);
+    let was = steps[table as usize];
+    let step = new_step(table_of(setup, control, table), was, reading);
     let duties = setup.duties;
     Ask {
         step: step,
@@ -417,32 +415,36 @@ fn ask_after(chip: Chip, table: u8) -> Ask
     }
 }
 
-fn boost_after(chip: Chip, zone: u8) -> bool
+fn boost_after(
+    setup: Setup,
+    file: &[u8; 256],
+    zones: [Zone; 6],
+    boosts: [bool; 6],
+    zone: u8,
+) -> bool
     requires { ⌜ zone < 6 ⌝ }
-    ensures { λ r. ⌜ r ≡ boostAfter chip zone ⌝ }
+    ensures { λ r. ⌜ r ≡ boostAfter (ofBoosts setup (now (file .entry)) zones boosts) zone ⌝ }
 {
     let i = zone as usize;
-    let z = chip.zones[i];
+    let z = zones[i];
     let reading = z.reading;
-    let setup = chip.setup;
     let b = setup.boosts[i];
     let boost = b.boost;
-    let drive = chip.drive;
-    let was = drive.boosts[i];
-    let source = chip.registers[registers::TEMPERATURE_SOURCE_SELECT as usize];
+    let was = boosts[i];
+    let source = file[registers::TEMPERATURE_SOURCE_SELECT as usize];
     let enabled = boost_enabled(source, zone);
     is_boosted(enabled, boost, setup.boost_hysteresis, reading, was)
 }
 
-fn boosts_after(chip: Chip) -> [bool; 6]
-    ensures { λ r. ⌜ r ≡ boostsAfter chip ⌝ }
+fn boosts_after(setup: Setup, file: &[u8; 256], zones: [Zone; 6], boosts: [bool; 6]) -> [bool; 6]
+    ensures { λ r. ⌜ r ≡ boostsAfter (ofBoosts setup (now (file .entry)) zones boosts) ⌝ }
 {
-    let b0 = boost_after(chip, 0);
-    let b1 = boost_after(chip, 1);
-    let b2 = boost_after(chip, 2);
-    let b3 = boost_after(chip, 3);
-    let b4 = boost_after(chip, 4);
-    let b5 = boost_after(chip, 5);
+    let b0 = boost_after(setup, file, zones, boosts, 0);
+    let b1 = boost_after(setup, file, zones, boosts, 1);
+    let b2 = boost_after(setup, file, zones, boosts, 2);
+    let b3 = boost_after(setup, file, zones, boosts, 3);
+    let b4 = boost_after(setup, file, zones, boosts, 4);
+    let b5 = boost_after(setup, file, zones, boosts, 5);
     [b0, b1, b2, b3, b4, b5]
 }
 
@@ -459,25 +461,24 @@ fn any_on(boosts: [bool; 6]) -> bool
     false
 }
 
-fn ramp_after(chip: Chip, input: u8) -> Ramp
+fn ramp_after(file: &[u8; 256], hot: [bool; 4], ramps: [Ramp; 4], input: u8) -> Ramp
     requires { ⌜ input < 4 ⌝ }
-    ensures { λ r. ⌜ r ≡ rampAfter chip input ⌝ }
+    ensures { λ r. ⌜ r ≡ rampAfter (ofRamps (now (file .entry)) hot ramps) input ⌝ }
 {
     let i = input as usize;
-    let drive = chip.drive;
-    let ramp = drive.ramps[i];
-    let hot = chip.hot[i];
-    let control = chip.registers[registers::PWM_RAMP_CONTROL as usize];
-    ramped_on(ramp, hot, delay_of(control, input))
+    let ramp = ramps[i];
+    let is_hot = hot[i];
+    let control = file[registers::PWM_RAMP_CONTROL as usize];
+    ramped_on(ramp, is_hot, delay_of(control, input))
 }
 
-fn ramps_after(chip: Chip) -> [Ramp; 4]
-    ensures { λ r. ⌜ r ≡ rampsAfter chip ⌝ }
+fn ramps_after(file: &[u8; 256], hot: [bool; 4], ramps: [Ramp; 4]) -> [Ramp; 4]
+    ensures { λ r. ⌜ r ≡ rampsAfter (ofRamps (now (file .entry)) hot ramps) ⌝ }
 {
-    let r0 = ramp_after(chip, 0);
-    let r1 = ramp_after(chip, 1);
-    let r2 = ramp_after(chip, 2);
-    let r3 = ramp_after(chip, 3);
+    let r0 = ramp_after(file, hot, ramps, 0);
+    let r1 = ramp_after(file, hot, ramps, 1);
+    let r2 = ramp_after(file, hot, ramps, 2);
+    let r3 = ramp_after(file, hot, ramps, 3);
     [r0, r1, r2, r3]
 }
 
@@ -500,39 +501,41 @@ fn duty_after(setup: Setup, fan: usize, asks: [u16; 4], levels: [u16; 4], booste
     fan_duty(setup.bindings[fan], manual, asks, levels, boosted)
 }
 
-fn kick_after(chip: Chip, fan: usize, duty: u16) -> Kick
+fn kick_after(setup: Setup, duties: [u16; 2], starts: [u8; 2], fan: usize, duty: u16) -> Kick
     requires { ⌜ fan < 2 ⌝ }
-    ensures { λ r. ⌜ r ≡ kickAfter chip fan duty ⌝ }
+    ensures { λ r. ⌜ r ≡ kickAfter (ofKick setup duties starts) fan duty ⌝ }
 {
-    let drive = chip.drive;
-    let setup = chip.setup;
     kicked_fan(
-        drive.duties[fan],
+        duties[fan],
         duty,
-        drive.starts[fan],
+        starts[fan],
         setup.start_duties[fan],
         setup.start_counts[fan],
     )
 }
 
-// One tick of 50 ms: tables, boosts, ramps, duties, kick. It changes nothing but the chip's drive.
-pub fn tick(chip: Chip) -> Ticked
-    ensures { λ r. ⌜ r ≡ tickedChip chip ⌝ }
+// One tick of 50 ms: tables, boosts, ramps, duties, kick.
+pub fn tick(setup: Setup, file: &[u8; 256], zones: [Zone; 6], hot: [bool; 4], old: Drive) -> Driven
+    ensures { λ r. ⌜ r ≡ driven (ofDrive setup (now (file .entry)) zones hot old) ⌝ }
 {
-    let a0 = ask_after(chip, 0);
-    let a1 = ask_after(chip, 1);
-    let a2 = ask_after(chip, 2);
-    let a3 = ask_after(chip, 3);
+    let steps_before = old.steps;
+    let a0 = ask_after(setup, file, zones, steps_before, 0);
+    let a1 = ask_after(setup, file, zones, steps_before, 1);
+    let a2 = ask_after(setup, file, zones, steps_before, 2);
+    let a3 = ask_after(setup, file, zones, steps_before, 3);
     let asks = [a0.duty, a1.duty, a2.duty, a3.duty];
-    let boosts = boosts_after(chip);
+    let boosts_before = old.boosts;
+    let boosts = boosts_after(setup, file, zones, boosts_before);
     let boosted = any_on(boosts);
-    let ramps = ramps_after(chip);
+    let ramps_before = old.ramps;
+    let ramps = ramps_after(file, hot, ramps_before);
     let levels = levels_of(ramps);
-    let setup = chip.setup;
     let duty1 = duty_after(setup, 0, asks, levels, boosted);
     let duty2 = duty_after(setup, 1, asks, levels, boosted);
-    let kick1 = kick_after(chip, 0, duty1);
-    let kick2 = kick_after(chip, 1, duty2);
+    let duties_before = old.duties;
+    let starts_before = old.starts;
+    let kick1 = kick_after(setup, duties_before, starts_before, 0, duty1);
+    let kick2 = kick_after(setup, duties_before, starts_before, 1, duty2);
     let drive = Drive {
         steps: [a0.step, a1.step, a2.step, a3.step],
         boosts: boosts,
@@ -540,10 +543,8 @@ pub fn tick(chip: Chip) -> Ticked
         duties: [duty1, duty2],
         starts: [kick1.start, kick2.start],
     };
-    let mut next = chip;
-    next.drive = drive;
-    Ticked {
-        chip: next,
+    Driven {
+        drive: drive,
         outputs: [kick1.output, kick2.output],
     }
 }

@@ -4,11 +4,9 @@ use mathlib.Core.Path.{_≡_, refl, _∙_}
 use mathlib.Core.Bool.{Bool}
 use mathlib.Core.List.{List}
 use Prim.Native.Nat.{ℕ, zero, suc, _-_}
-use lib.Dec.{eqb, ltb}
+use lib.Dec.{ltb}
 use lib.ListN.{length, length-set}
-use Rattle.laws.specs.Pick.{both}
 use Rattle.laws.specs.Pointwise.{pick-each}
-use Rattle.map.specs.Map.{homeOf}
 use Rattle.map.specs.Names.{TEMPERATURE-SOURCE-SELECT}
 use Rattle.temperature.specs.declared.Reading.{Reading}
 use Rattle.state.specs.declared.Chip.{Chip}
@@ -20,17 +18,18 @@ use Rattle.state.specs.declared.Count.the-variants as count
 use Rattle.state.specs.Parts.{registerAt}
 use Rattle.state.specs.With.{withRegisters, withPin, withRegister, withZone, withVolt, withFan, withHotInput}
 use Rattle.sense.specs.Errors.{withBit, markedVolt, markedFan, lowLimit, highLimit, isOutside, comparedVolt, fanLimitAt, comparedFan}
-use Rattle.sense.specs.Missing.{voltWatched, fanWatched, missedVolt, missedFan, missedVolts, missedFans, missed}
-use Rattle.sense.specs.Events.{zoneThreeFed, tookTemperature, feedsThree, feedsFour, fedZone, tookVoltage, tookFan, tookHot, tookPin, resetFile, tookReset}
+use Rattle.sense.specs.Missing.{voltWatched, fanWatched, missedVolt, missedFan, missedVolts, missedFans, missedFile, missed}
+use Rattle.sense.specs.Events.{zoneHeard, tookTemperature, feedsThree, feedsFour, fedZone, tookVoltage, tookFan, tookHot, tookPin, resetFile, tookReset}
 use Rattle.bus.specs.Latch.{transacted}
-use Rattle.bus.specs.Write.{stored, cleared, wroteRegister, wroteByte}
+use Rattle.bus.specs.declared.Change.{Change}
+use Rattle.bus.specs.declared.Change.the-variants.{Nothing, Register, ZoneReading}
+use Rattle.bus.specs.Write.{changeOf, changed, wroteRegister, wroteByte}
 use Rattle.bus.specs.Read.{readByte}
-use Rattle.bus.specs.Changes.{Change, none, store, clear, zone as zoned, wrote-change}
 use Rattle.bus.specs.Transactions.{read-chip, write-cases}
 use Rattle.event.specs.declared.Event.{Event}
 use Rattle.event.specs.declared.Event.the-variants.{Temperature, Voltage, Fan, Hot, Pin as PinEvent, Tick, Reset, Write, Read}
 use Rattle.event.specs.declared.Stepped.{Stepped}
-use Rattle.event.specs.Event.{indexIn, readingIn, countIn, levelIn, quietStep, refusedStep, temperatureStep, voltageStep, fanStep, hotStep, pinStep, writtenAnswer, writeStep, readAnswer, readStep, steppedChip}
+use Rattle.event.specs.Event.{eventIn, quietStep, refusedStep, writtenAnswer, readAnswer, takenStep, steppedChip}
 
 -- d has the setup and the drive of c, and lists as long
 pub record Alike (c d : Chip) : Type 0 where
@@ -138,12 +137,11 @@ reset-long file = simp length-set
 
 -- ---- the events
 
-change-alike : (c : Chip) {a byte : ℕ} {d : Chip} → Change c a byte d → Alike c d
-unfolding stored cleared
-change-alike c none = alike-self c
-change-alike c (store f s) = alike-register c _ _
-change-alike c (clear f s) = alike-register c _ _
-change-alike c (zoned i r) = alike-zone c i r
+change-alike : (c : Chip) (d : Change) → Alike c (changed c d)
+unfolding changed
+change-alike c Nothing = alike-self c
+change-alike c (Register a byte) = alike-register c a byte
+change-alike c (ZoneReading i r) = alike-zone c i r
 
 module _ (c : Chip) where
   fed-alike : (channel : ℕ) (n : Count) → Alike c (fedZone c channel n)
@@ -158,19 +156,18 @@ module _ (c : Chip) where
 
   register-alike : (a byte : ℕ) → Alike c (wroteRegister c a byte)
   unfolding wroteRegister
-  register-alike a byte = change-alike c (wrote-change c (homeOf a) byte)
+  register-alike a byte = change-alike c (changeOf c a byte)
 
 module _ (c : Chip) where
   -- the missing marks of a tick
   pub missed-alike : Alike c (missed c)
-  unfolding missed
+  unfolding missed missedFile
   missed-alike = alike-registers c _ (missed-fans-long _ (c .fans) 4 ∙ missed-volts-long (c .registers) (c .volts) 16)
 
   temperature-alike : (zone : ℕ) (r : Reading) → Alike c (tookTemperature c zone r)
   unfolding tookTemperature
   temperature-alike zone r =
-      pick-each (Alike c) (ltb zone 4) (alike-zone c zone r)
-      (pick-each (Alike c) (eqb zone 4) (pick-each (Alike c) (zoneThreeFed (registerAt c TEMPERATURE-SOURCE-SELECT)) (alike-self c) (alike-zone c zone r)) (alike-self c))
+      pick-each (Alike c) (zoneHeard (registerAt c TEMPERATURE-SOURCE-SELECT) zone) (alike-zone c zone r) (alike-self c)
 
   voltage-alike : (channel : ℕ) (n : Count) → Alike c (tookVoltage c channel n)
   unfolding tookVoltage withVolt
@@ -198,35 +195,26 @@ module _ (c : Chip) where
   unfolding tookReset
   reset-alike = alike-registers c _ (reset-long (c .registers))
 
-  write-alike : (address a byte : ℕ) → Alike c (writtenAnswer (wroteByte c address a byte) .chip)
-  unfolding writtenAnswer
+  write-alike : (address a byte : ℕ) → Alike c (wroteByte c address a byte .chip)
   write-alike address a byte =
       write-cases c address (Alike c) a byte (transacted-alike c address) (alike-on (transacted-alike c address) (register-alike (transacted c address) a byte))
 
-  read-alike : (address a : ℕ) → Alike c (readAnswer (readByte c address a) .chip)
-  unfolding readAnswer
+  read-alike : (address a : ℕ) → Alike c (readByte c address a .chip)
   read-alike address a = rw (read-chip c address a) (transacted-alike c address)
 
-  abbrev Keeps : Stepped → Type 0
-  Keeps s = Alike c (s .chip)
-
-  refused-alike : Keeps (refusedStep c)
-  unfolding refusedStep
-  refused-alike = alike-self c
-
-  quiet-alike : {d : Chip} → Alike c d → Keeps (quietStep d)
-  unfolding quietStep
-  quiet-alike p = p
+  taken-alike : (e : Event) → (e ≡ Tick → ⊥) → Alike c (takenStep c e .chip)
+  unfolding takenStep quietStep writtenAnswer readAnswer
+  taken-alike (Temperature zone r) h = temperature-alike (zone - 1) r
+  taken-alike (Voltage channel n) h = voltage-alike (channel - 1) n
+  taken-alike (Fan fan n) h = fan-alike (fan - 1) n
+  taken-alike (Hot input level) h = hot-alike (input - 1) _
+  taken-alike (PinEvent level) h = pin-alike _
+  taken-alike Tick h = absurd (h refl)
+  taken-alike Reset h = reset-alike
+  taken-alike (Write address a byte) h = write-alike address a byte
+  taken-alike (Read address a) h = read-alike address a
 
   -- an event other than a tick keeps the setup, the drive and how long the lists are
   pub event-alike : (e : Event) → (e ≡ Tick → ⊥) → Alike c (steppedChip c e .chip)
-  unfolding steppedChip temperatureStep voltageStep fanStep hotStep pinStep writeStep readStep
-  event-alike (Temperature zone r) h = pick-each Keeps (both (indexIn 5 zone) (readingIn r)) (quiet-alike (temperature-alike (zone - 1) r)) refused-alike
-  event-alike (Voltage channel n) h = pick-each Keeps (both (indexIn 16 channel) (countIn 255 n)) (quiet-alike (voltage-alike (channel - 1) n)) refused-alike
-  event-alike (Fan fan n) h = pick-each Keeps (both (indexIn 4 fan) (countIn 16383 n)) (quiet-alike (fan-alike (fan - 1) n)) refused-alike
-  event-alike (Hot input level) h = pick-each Keeps (both (indexIn 4 input) (levelIn 1 level)) (quiet-alike (hot-alike (input - 1) _)) refused-alike
-  event-alike (PinEvent level) h = pick-each Keeps (levelIn 2 level) (quiet-alike (pin-alike _)) refused-alike
-  event-alike Tick h = absurd (h refl)
-  event-alike Reset h = quiet-alike reset-alike
-  event-alike (Write address a byte) h = pick-each Keeps (ltb 0x7F address) refused-alike (write-alike address a byte)
-  event-alike (Read address a) h = pick-each Keeps (ltb 0x7F address) refused-alike (read-alike address a)
+  unfolding steppedChip refusedStep
+  event-alike e h = pick-each (λ (s : Stepped). Alike c (s .chip)) (eventIn e) (taken-alike e h) (alike-self c)

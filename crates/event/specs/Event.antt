@@ -1,7 +1,7 @@
 -- Document 01, "Events", with the refusal of "Lines and refusals" for numbers out of range: one event, by cases. Assumes nothing.
-use mathlib.Core.Bool.{Bool, true, false, not}
+use mathlib.Core.Bool.{Bool, true, false}
 use Prim.Native.Nat.{ℕ, _-_, _%_}
-use lib.Dec.{eqb, leb, ltb}
+use lib.Dec.{eqb, leb}
 use lib.IntN.{pos, negsuc}
 use lib.ListN.{getD}
 use lib.Signed.{leZ}
@@ -14,14 +14,9 @@ use Rattle.state.specs.declared.Count.the-variants.{Taken, Missing}
 use Rattle.sense.specs.Missing.{missed}
 use Rattle.sense.specs.Standing.{errorsStanding, alertActive}
 use Rattle.sense.specs.Events.{tookTemperature, tookVoltage, tookFan, tookHot, tookPin, tookReset}
-use Rattle.bus.specs.declared.Shown.{Shown}
-use Rattle.bus.specs.declared.Shown.the-variants as shown
-use Rattle.bus.specs.declared.Written.{Written}
-use Rattle.bus.specs.declared.Seen.{Seen}
-use Rattle.bus.specs.Write.{wroteByte}
-use Rattle.bus.specs.Read.{readByte}
-use Rattle.drive.specs.declared.Ticked.{Ticked}
-use Rattle.drive.specs.Tick.{tickedChip}
+use Rattle.bus.specs.Write.{Written, wroteByte}
+use Rattle.bus.specs.Read.{Shown, NoByte as NoneShown, Byte as ByteShown, Seen, readByte}
+use Rattle.drive.specs.Tick.{Ticked, tickedChip}
 use Rattle.event.specs.declared.Event.{Event}
 use Rattle.event.specs.declared.Event.the-variants.{Temperature, Voltage, Fan, Hot, Pin, Tick, Reset, Write, Read}
 use Rattle.event.specs.declared.Answer.{Answer}
@@ -67,9 +62,9 @@ fanIn fan n = both (indexIn 4 fan) (countIn 16383 n)
 abbrev pub hotIn : ℕ → Count → Bool
 hotIn input level = both (indexIn 4 input) (levelIn 1 level)
 
--- "address above 7Fh"
+-- refused: "address above 7Fh"
 abbrev pub addressIn : ℕ → Bool
-addressIn address = not (ltb 0x7F address)
+addressIn address = leb address 0x7F
 
 unfoldable pub eventIn : Event → Bool
 eventIn (Temperature zone r) = temperatureIn zone r
@@ -96,24 +91,6 @@ quietStep c = record { chip = c; answer = Nothing }
 unfoldable pub refusedStep : Chip → Stepped
 refusedStep c = record { chip = c; answer = Refused 2 }
 
--- ---- each event
-
-unfoldable pub temperatureStep : Chip → ℕ → Reading → Stepped
-temperatureStep c zone r = pick (temperatureIn zone r) (quietStep (tookTemperature c (zone - 1) r)) (refusedStep c)
-
-unfoldable pub voltageStep : Chip → ℕ → Count → Stepped
-voltageStep c channel n = pick (voltageIn channel n) (quietStep (tookVoltage c (channel - 1) n)) (refusedStep c)
-
-unfoldable pub fanStep : Chip → ℕ → Count → Stepped
-fanStep c fan n = pick (fanIn fan n) (quietStep (tookFan c (fan - 1) n)) (refusedStep c)
-
-unfoldable pub hotStep : Chip → ℕ → Count → Stepped
-hotStep c input level =
-    pick (hotIn input level) (quietStep (tookHot c (input - 1) (eqb (levelOf level) 1))) (refusedStep c)
-
-unfoldable pub pinStep : Chip → Count → Stepped
-pinStep c level = pick (levelIn 2 level) (quietStep (tookPin c (levelOf level))) (refusedStep c)
-
 -- "K prints alert, duty 1, duty 2, output 1, output 2, errors"
 unfoldable pub tickAnswer : Ticked → Stepped
 tickAnswer t = record {
@@ -128,37 +105,32 @@ tickAnswer t = record {
   });
 }
 
--- the missing marks, then the fans
-unfoldable pub tickStep : Chip → Stepped
-tickStep c = tickAnswer (tickedChip (missed c))
-
 -- "W prints ack (1 or 0)"
 unfoldable pub writtenAnswer : Written → Stepped
 writtenAnswer w = record { chip = w .chip; answer = Acknowledged (w .ack) }
 
-unfoldable pub writeStep : Chip → ℕ → ℕ → ℕ → Stepped
-writeStep c address a byte = pick (ltb 0x7F address) (refusedStep c) (writtenAnswer (wroteByte c address a byte))
-
 -- "R prints ack and the byte, or `--`"
 unfoldable pub seenAnswer : Shown → Answer
-seenAnswer shown.NoByte = NoByte
-seenAnswer (shown.Byte b) = Byte b
+seenAnswer NoneShown = NoByte
+seenAnswer (ByteShown b) = Byte b
 
 unfoldable pub readAnswer : Seen → Stepped
 readAnswer s = record { chip = s .chip; answer = seenAnswer (s .shown) }
 
-unfoldable pub readStep : Chip → ℕ → ℕ → Stepped
-readStep c address a = pick (ltb 0x7F address) (refusedStep c) (readAnswer (readByte c address a))
-
 -- ---- one event
 
+-- with its numbers in range; of K the missing marks come first, then the fans
+unfoldable pub takenStep : Chip → Event → Stepped
+takenStep c (Temperature zone r) = quietStep (tookTemperature c (zone - 1) r)
+takenStep c (Voltage channel n) = quietStep (tookVoltage c (channel - 1) n)
+takenStep c (Fan fan n) = quietStep (tookFan c (fan - 1) n)
+takenStep c (Hot input level) = quietStep (tookHot c (input - 1) (eqb (levelOf level) 1))
+takenStep c (Pin level) = quietStep (tookPin c (levelOf level))
+takenStep c Tick = tickAnswer (tickedChip (missed c))
+takenStep c Reset = quietStep (tookReset c)
+takenStep c (Write address a byte) = writtenAnswer (wroteByte c address a byte)
+takenStep c (Read address a) = readAnswer (readByte c address a)
+
+-- taken, or refused by number
 unfoldable pub steppedChip : Chip → Event → Stepped
-steppedChip c (Temperature zone r) = temperatureStep c zone r
-steppedChip c (Voltage channel n) = voltageStep c channel n
-steppedChip c (Fan fan n) = fanStep c fan n
-steppedChip c (Hot input level) = hotStep c input level
-steppedChip c (Pin level) = pinStep c level
-steppedChip c Tick = tickStep c
-steppedChip c Reset = quietStep (tookReset c)
-steppedChip c (Write address a byte) = writeStep c address a byte
-steppedChip c (Read address a) = readStep c address a
+steppedChip c e = pick (eventIn e) (takenStep c e) (refusedStep c)

@@ -16,11 +16,11 @@ use Rattle.state.specs.Parts.{registerAt, zoneAt, hotAt}
 use Rattle.state.specs.With.{withRegister, withZone, withHotInput}
 use Rattle.state.specs.PowerOn.{defaultSetup, powerOn, atRest}
 use Rattle.sense.specs.Errors.{withBit, markedVolt, markedFan, lowLimit, highLimit, fanLimit, fanLimitAt}
-use Rattle.sense.specs.Missing.{voltWatched, fanWatched, missedVolt, missedFan, missedVolts, missedFans, missed}
+use Rattle.sense.specs.Missing.{voltWatched, fanWatched, missedVolt, missedFan, missedVolts, missedFans, missedFile, missed}
 use Rattle.sense.specs.Standing.{bitsOf, errorsStanding, alertActive}
-use Rattle.sense.specs.Events.{zoneThreeFed, tookTemperature, tookHot}
-use Rattle.bus.specs.Latch.{latchBy, latchAfter, isOurs, transacted}
-use Rattle.bus.specs.Write.{storedByte, stored, wroteKind, isShut, wroteHome, wroteRegister, wroteByte}
+use Rattle.sense.specs.Events.{zoneThreeFed, zoneHeard, tookTemperature, tookHot}
+use Rattle.bus.specs.Latch.{latchBy, latchAfter, transactedPin, isOurs, transacted}
+use Rattle.bus.specs.Write.{storedByte, stored, changeKind, isShut, changeHome, changeOf, changed, wroteRegister, wroteByte}
 use Rattle.bus.specs.Read.{shownKind, shownHome, shownRegister, readByte}
 use Rattle.drive.specs.Tables.{joinedZone, zoneOne, zoneTwo, followedZone, unitOf, tableOf, sumTo, isReached, thresholdReached, notAbove, settled, newStep, askedDuty}
 use Rattle.drive.specs.Boosts.{isBoosted, isLatched, boostEnabled}
@@ -31,7 +31,7 @@ use Rattle.event.specs.declared.Event.{Event}
 use Rattle.event.specs.declared.Event.the-variants.{Temperature, Hot, Tick, Write, Read}
 use Rattle.event.specs.declared.Answer.{Answer}
 use Rattle.event.specs.declared.Answer.the-variants.{Nothing, Refused, Acknowledged, Byte, NoByte, Ticked}
-use Rattle.event.specs.Event.{indexIn, readingIn, countIn, levelIn, levelOf, quietStep, refusedStep, temperatureStep, hotStep, tickAnswer, tickStep, writtenAnswer, writeStep, seenAnswer, readAnswer, readStep, steppedChip}
+use Rattle.event.specs.Event.{indexIn, readingIn, countIn, levelIn, levelOf, quietStep, refusedStep, eventIn, tickAnswer, writtenAnswer, seenAnswer, readAnswer, takenStep, steppedChip}
 use Rattle.event.specs.Run.{answersTo}
 
 -- K, T 1 70, T 5 66, K, W 2C BF 01, H 1 1, K, W 2C B5 80, K, R 2C 52, R 2D 52, T 6 10
@@ -56,5 +56,5 @@ answers =
     ∷ []
 
 pub session-answers : answersTo (powerOn defaultSetup) session ≡ answers
-unfolding session answers answersTo steppedChip indexIn readingIn countIn levelIn levelOf quietStep refusedStep temperatureStep hotStep tickAnswer tickStep writtenAnswer writeStep seenAnswer readAnswer readStep tookTemperature zoneThreeFed tookHot missed missedVolts missedFans missedVolt missedFan voltWatched fanWatched lowLimit highLimit fanLimit fanLimitAt markedVolt markedFan withBit errorsStanding bitsOf alertActive wroteByte readByte transacted latchAfter latchBy isOurs slaveAddress wroteRegister wroteHome wroteKind isShut stored storedByte shownRegister shownHome shownKind wholeByte wholeOf byteOf registerAt zoneAt hotAt withRegister withZone withHotInput homeOf homes kindOf writableOf writables lockMarked lockMarks isSet tickedChip driveAfter outputsAfter kickAfter dutyOf dutyAfter levelsOf rampsAfter rampAfter anyOn boostsAfter boostAfter asksAfter stepsAfter askAfter stepAfter followed kickedFan loadedStart fanDuty tablesAsk boundLargest rampedOn movedLevel delayOf isBoosted isLatched boostEnabled askedDuty newStep settled notAbove thresholdReached isReached sumTo tableOf unitOf followedZone zoneOne zoneTwo joinedZone hotterOf countTo powerOn atRest defaultSetup defaults
+unfolding session answers answersTo steppedChip eventIn takenStep indexIn readingIn countIn levelIn levelOf quietStep refusedStep tickAnswer writtenAnswer seenAnswer readAnswer tookTemperature zoneHeard zoneThreeFed tookHot missed missedFile missedVolts missedFans missedVolt missedFan voltWatched fanWatched lowLimit highLimit fanLimit fanLimitAt markedVolt markedFan withBit errorsStanding bitsOf alertActive wroteByte readByte transacted transactedPin latchAfter latchBy isOurs slaveAddress wroteRegister changed changeOf changeHome changeKind isShut stored storedByte shownRegister shownHome shownKind wholeByte wholeOf byteOf registerAt zoneAt hotAt withRegister withZone withHotInput homeOf homes kindOf writableOf writables lockMarked lockMarks isSet tickedChip driveAfter outputsAfter kickAfter dutyOf dutyAfter levelsOf rampsAfter rampAfter anyOn boostsAfter boostAfter asksAfter stepsAfter askAfter stepAfter followed kickedFan loadedStart fanDuty tablesAsk boundLargest rampedOn movedLevel delayOf isBoosted isLatched boostEnabled askedDuty newStep settled notAbove thresholdReached isReached sumTo tableOf unitOf followedZone zoneOne zoneTwo joinedZone hotterOf countTo powerOn atRest defaultSetup defaults
 session-answers = refl

@@ -1,22 +1,24 @@
 -- What a tick changes and answers. Assumes nothing.
-use mathlib.Core.Path.{_≡_, refl}
+use mathlib.Core.Path.{_≡_, refl, ap, _∙_}
 use mathlib.Core.List.{List}
 use Prim.Native.Nat.{ℕ, _≤_}
-use native.Mathlib.Omega.{arith}
 use lib.ListN.{getD}
-use Rattle.map.specs.Names.{B-ERROR-STATUS-2, B-ERROR-STATUS-3, B-FAN-ERROR-STATUS}
 use Rattle.state.specs.declared.Chip.{Chip}
 use Rattle.state.specs.Valid.{Valid}
-use Rattle.sense.specs.Missing.{missed}
+use Rattle.state.specs.With.{withRegisters, withDrive}
+use Rattle.state.specs.Made.{ofDrive}
+use Rattle.sense.specs.Missing.{missedFile, missed}
 use Rattle.sense.specs.Standing.{errorsStanding, alertActive}
-use Rattle.sense.specs.Ones.{bits-le}
-use Rattle.drive.specs.Tick.{dutyOf, driveAfter, outputsAfter, tickedChip}
+use Rattle.sense.specs.Alerts.{errors-le}
+use Rattle.drive.specs.declared.Driven.{Driven}
+use Rattle.drive.specs.Tick.{dutyOf, driveAfter, outputsAfter, driven, tickedChip, driven-by-parts}
 use Rattle.drive.specs.Range.{InRange, duty-of-le, outputs-le}
 use Rattle.drive.specs.TickOrder.{SameButDrive, tick-keeps}
 use Rattle.event.specs.declared.Event.the-variants.{Tick}
 use Rattle.event.specs.declared.Tick.{Tick as Shown}
 use Rattle.event.specs.declared.Answer.the-variants.{Ticked}
-use Rattle.event.specs.Event.{tickAnswer, tickStep, steppedChip}
+use Rattle.event.specs.declared.Stepped.{Stepped}
+use Rattle.event.specs.Event.{eventIn, tickAnswer, takenStep, steppedChip}
 use Rattle.event.specs.Alike.{missed-alike}
 
 -- what a tick shows is in range
@@ -27,16 +29,25 @@ pub record ShownRange (t : Shown) : Type 0 where
   pub output2 : t .output2 ≤ 256
   pub errors : t .errors ≤ 20
 
--- "the number of ones in those bits, 0 to 20"
-pub standing-le : (file : List ℕ) → errorsStanding file ≤ 20
-unfolding errorsStanding
-standing-le file =
-    omega (arith, bits-le 8 (getD file B-ERROR-STATUS-2 0), bits-le 8 (getD file B-ERROR-STATUS-3 0), bits-le 4 (getD file B-FAN-ERROR-STATUS 0))
+-- ---- K on the parts
+
+-- a tick from the registers with their marks and from what turns the fans
+abbrev pub tickFrom : Chip → List ℕ → Driven → Stepped
+tickFrom c file d = tickAnswer (record { chip = withDrive (withRegisters c file) (d .drive); outputs = d .outputs })
+
+pub tick-by-parts : (c : Chip) {file : List ℕ} {d : Driven} → file ≡ missedFile (c .registers) (c .volts) (c .fans) → d ≡ driven (ofDrive (c .setup) file (c .zones) (c .hot) (c .drive)) → tickFrom c file d ≡ takenStep c Tick
+unfolding takenStep tickAnswer tickedChip missed driven
+tick-by-parts c {file} marked turned =
+    ap (tickFrom c file) turned
+    ∙ ap (λ (f : List ℕ). tickFrom c f (driven (ofDrive (c .setup) f (c .zones) (c .hot) (c .drive)))) marked
+    ∙ ap (tickFrom c (missed c .registers)) (driven-by-parts (missed c))
+
+-- ---- what a tick leaves and shows
 
 module _ (c : Chip) where
   -- the missing marks, then the fans
   pub tick-chip : steppedChip c Tick .chip ≡ tickedChip (missed c) .chip
-  unfolding steppedChip tickStep tickAnswer
+  unfolding steppedChip eventIn takenStep tickAnswer
   tick-chip = refl
 
   -- a tick sets the missing marks, then changes nothing but the drive
@@ -56,7 +67,7 @@ module _ (c : Chip) where
 
   -- a tick's answer speaks of the chip that it leaves
   pub tick-answers : steppedChip c Tick .answer ≡ Ticked tickShown
-  unfolding steppedChip tickStep tickAnswer tickedChip driveAfter tickShown
+  unfolding steppedChip eventIn takenStep tickAnswer tickedChip driveAfter tickShown
   tick-answers = refl
 
   -- a tick shows duties and outputs of 0 to 256, and 0 to 20 errors
@@ -67,7 +78,7 @@ module _ (c : Chip) where
     duty2 = duty 1;
     output1 = output 0;
     output2 = output 1;
-    errors = standing-le (steppedChip c Tick .chip .registers);
+    errors = errors-le (steppedChip c Tick .chip .registers);
   }
     where
       valid : Valid (missed c .setup)

@@ -1,7 +1,9 @@
 // The events of the chip: each is taken, or refused by its number (document 01, "Events" and "Lines and refusals").
 ghost use mathlib.Core.Path.{_≡_};
-ghost use Rattle.event.specs.Event.{indexIn, readingIn, countIn, levelIn, levelOf, temperatureIn, voltageIn, fanIn, hotIn, addressIn, eventIn, refusalOf, seenAnswer, quietStep, refusedStep, hotStep, pinStep, tickStep, writeStep, steppedChip};
-use bus::Shown;
+ghost use Rattle.event.specs.Event.{indexIn, readingIn, countIn, levelIn, levelOf, temperatureIn, voltageIn, fanIn, hotIn, addressIn, eventIn, refusalOf, steppedChip};
+ghost use Rattle.bus.specs.Dump.{dumpAnswer, dumpedInto};
+use bus::Change;
+use bus::Dumped;
 use map::registers;
 use state::Chip;
 use state::Count;
@@ -63,7 +65,7 @@ pub struct Stepped {
 // The refusal of an event number out of range.
 const OUT_OF_RANGE: u8 = 2;
 
-// The largest of 127 slave addresses.
+// The largest slave address, of seven bits.
 const ADDRESS_TOP: u8 = 0x7F;
 
 // ---- ranges
@@ -149,7 +151,7 @@ fn hot_in(input: u8, level: Count) -> bool
 fn address_in(address: u8) -> bool
     ensures { λ r. ⌜ r ≡ addressIn address ⌝ }
 {
-    if ADDRESS_TOP < address { false } else { true }
+    address <= ADDRESS_TOP
 }
 
 fn event_in(event: Event) -> bool
@@ -182,36 +184,7 @@ pub fn refusal_of(event: Event) -> u8
     if event_in(event) { 0 } else { OUT_OF_RANGE }
 }
 
-// ---- answers
-
-fn quiet(chip: Chip) -> Stepped
-    ensures { λ r. ⌜ r ≡ quietStep chip ⌝ }
-{
-    Stepped {
-        chip: chip,
-        answer: Answer::Nothing,
-    }
-}
-
-fn refuse(chip: Chip) -> Stepped
-    ensures { λ r. ⌜ r ≡ refusedStep chip ⌝ }
-{
-    Stepped {
-        chip: chip,
-        answer: Answer::Refused(OUT_OF_RANGE),
-    }
-}
-
 // ---- the events
-
-fn step_hot(chip: Chip, input: u8, level: Count) -> Stepped
-    ensures { λ r. ⌜ r ≡ hotStep chip input level ⌝ }
-{
-    if hot_in(input, level) {
-        return quiet(sense::take_hot(chip, input - 1, level_of(level) == 1));
-    }
-    refuse(chip)
-}
 
 // A level as a number; 0 where it is missing.
 fn level_of(level: Count) -> u8
@@ -223,84 +196,24 @@ fn level_of(level: Count) -> u8
     (n % 256) as u8
 }
 
-fn step_pin(chip: Chip, level: Count) -> Stepped
-    ensures { λ r. ⌜ r ≡ pinStep chip level ⌝ }
-{
-    if level_in(2, level) {
-        return quiet(sense::take_pin(chip, level_of(level)));
-    }
-    refuse(chip)
-}
-
-// The missing marks, then the fans, then what shows.
-fn step_tick(chip: Chip) -> Stepped
-    ensures { λ r. ⌜ r ≡ tickStep chip ⌝ }
-{
-    let ticked = drive::tick(sense::mark_missing(chip));
-    let next = ticked.chip;
-    let after = next.drive;
-    let duty1 = after.duties[0];
-    let duty2 = after.duties[1];
-    let output1 = ticked.outputs[0];
-    let output2 = ticked.outputs[1];
-    Stepped {
-        chip: next,
-        answer: Answer::Ticked(Tick {
-            alert: sense::alert_active(&next.registers),
-            duty1: duty1,
-            duty2: duty2,
-            output1: output1,
-            output2: output2,
-            errors: sense::errors_standing(&next.registers),
-        }),
-    }
-}
-
-fn step_write(chip: Chip, address: u8, register: u8, byte: u8) -> Stepped
-    ensures { λ r. ⌜ r ≡ writeStep chip address register byte ⌝ }
-{
-    if ADDRESS_TOP < address {
-        return refuse(chip);
-    }
-    let written = bus::write_byte(chip, address, register, byte);
-    let next = written.chip;
-    Stepped {
-        chip: next,
-        answer: Answer::Acknowledged(written.ack),
-    }
-}
-
-fn seen_answer(shown: Shown) -> Answer
-    ensures { λ r. ⌜ r ≡ seenAnswer shown ⌝ }
-{
-    match shown {
-        Shown::NoByte => Answer::NoByte,
-        Shown::Byte(byte) => Answer::Byte(byte),
-    }
-}
-
-// One event: the chip after it and its answer. A refused event leaves the chip as it was. Readings, which most events are, go straight to
-// their places in the chip, and of a byte read only the pin comes back: the chip is large to hand on.
+// One event: the chip after it and its answer. A refused event leaves the chip as it was. The chip is large to hand on, so it is held here
+// alone: the functions of `sense`, `bus` and `drive` are given the parts that they look at, and what they answer is stored in its place.
 pub fn step(chip: Chip, event: Event) -> Stepped
     ensures { λ r. ⌜ r ≡ steppedChip chip event ⌝ }
 {
     let mut next = chip;
     let mut answer = Answer::Nothing;
-    match event {
-        Event::Temperature { zone, reading } => {
-            if temperature_in(zone, reading) {
+    if event_in(event) {
+        match event {
+            Event::Temperature { zone, reading } => {
                 let at = zone - 1;
                 let source = next.registers[registers::TEMPERATURE_SOURCE_SELECT as usize];
                 if sense::hears_zone(source, at) {
                     let z = Zone { reading: reading };
                     next.zones[at as usize] = z;
                 }
-            } else {
-                answer = Answer::Refused(OUT_OF_RANGE);
             }
-        }
-        Event::Voltage { channel, count } => {
-            if voltage_in(channel, count) {
+            Event::Voltage { channel, count } => {
                 let at = channel - 1;
                 let gauge = Gauge { count: count };
                 next.volts[at as usize] = gauge;
@@ -314,62 +227,108 @@ pub fn step(chip: Chip, event: Event) -> Stepped
                 } else if sense::feeds_four(source, at) {
                     next.zones[5] = z;
                 }
-            } else {
-                answer = Answer::Refused(OUT_OF_RANGE);
             }
-        }
-        Event::Fan { fan, count } => {
-            if fan_in(fan, count) {
+            Event::Fan { fan, count } => {
                 let at = fan - 1;
                 let gauge = Gauge { count: count };
                 next.fans[at as usize] = gauge;
                 sense::compare_count(&mut next.registers, at, count);
-            } else {
-                answer = Answer::Refused(OUT_OF_RANGE);
             }
-        }
-        Event::Hot { input, level } => {
-            let done = step_hot(next, input, level);
-            next = done.chip;
-            answer = done.answer;
-        }
-        Event::Pin { level } => {
-            let done = step_pin(next, level);
-            next = done.chip;
-            answer = done.answer;
-        }
-        Event::Tick => {
-            let done = step_tick(next);
-            next = done.chip;
-            answer = done.answer;
-        }
-        Event::Reset => {
-            next = sense::take_reset(next);
-        }
-        Event::Write {
-            address,
-            register,
-            byte,
-        } => {
-            let done = step_write(next, address, register, byte);
-            next = done.chip;
-            answer = done.answer;
-        }
-        Event::Read { address, register } => {
-            if address_in(address) {
-                let seen = bus::read_byte(next, address, register);
-                let after = seen.chip;
-                let pin = after.pin;
-                let shown = seen.shown;
+            Event::Hot { input, level } => {
+                let at = input - 1;
+                next.hot[at as usize] = level_of(level) == 1;
+            }
+            Event::Pin { level } => {
+                next.pin.level = level_of(level);
+            }
+            Event::Tick => {
+                let volts = next.volts;
+                let fans = next.fans;
+                sense::mark_missing(&mut next.registers, volts, fans);
+                let setup = next.setup;
+                let zones = next.zones;
+                let hot = next.hot;
+                let old = next.drive;
+                let driven = drive::tick(setup, &next.registers, zones, hot, old);
+                let drive = driven.drive;
+                let duty1 = drive.duties[0];
+                let duty2 = drive.duties[1];
+                let output1 = driven.outputs[0];
+                let output2 = driven.outputs[1];
+                next.drive = drive;
+                answer = Answer::Ticked(Tick {
+                    alert: sense::alert_active(&next.registers),
+                    duty1: duty1,
+                    duty2: duty2,
+                    output1: output1,
+                    output2: output2,
+                    errors: sense::errors_standing(&next.registers),
+                });
+            }
+            Event::Reset => {
+                sense::take_reset(&mut next.registers);
+            }
+            Event::Write {
+                address,
+                register,
+                byte,
+            } => {
+                let old = next.pin;
+                let pin = bus::transact(old, address);
+                let ack = bus::answers(pin, address);
                 next.pin = pin;
-                answer = seen_answer(shown);
-            } else {
-                answer = Answer::Refused(OUT_OF_RANGE);
+                answer = Answer::Acknowledged(ack);
+                if ack {
+                    let zones = next.zones;
+                    match bus::change_of(&next.registers, zones, register, byte) {
+                        Change::Nothing => {}
+                        Change::Register(home, stored) => {
+                            next.registers[home as usize] = stored;
+                        }
+                        Change::ZoneReading(zone, reading) => {
+                            let written = state::with_reading(zones, zone, reading);
+                            next.zones = written;
+                        }
+                    }
+                }
+            }
+            Event::Read { address, register } => {
+                let old = next.pin;
+                let pin = bus::transact(old, address);
+                let ack = bus::answers(pin, address);
+                next.pin = pin;
+                answer = Answer::NoByte;
+                if ack {
+                    let zones = next.zones;
+                    let volts = next.volts;
+                    let fans = next.fans;
+                    answer = Answer::Byte(bus::show_register(
+                        &next.registers,
+                        zones,
+                        volts,
+                        fans,
+                        register,
+                    ));
+                }
             }
         }
+    } else {
+        answer = Answer::Refused(OUT_OF_RANGE);
     }
     Stepped {
         chip: next,
         answer: answer,
     }
+}
+
+// ---- dump
+
+// The register dump of a chip, into a lent buffer.
+pub fn dump(chip: Chip, out: &mut [u8]) -> Dumped
+    ensures { λ r. ⌜ (r ≡ dumpAnswer (now (out .entry))) × (now (out .exit) ≡ dumpedInto chip (now (out .entry))) ⌝ }
+{
+    let zones = chip.zones;
+    let volts = chip.volts;
+    let fans = chip.fans;
+    bus::dump(&chip.registers, zones, volts, fans, out)
 }

@@ -16,7 +16,7 @@ use Rattle.event.specs.declared.Event.{Event}
 use Rattle.event.specs.declared.Event.the-variants.{Fan}
 use Rattle.event.specs.declared.Answer.{Answer}
 use Rattle.event.specs.declared.Answer.the-variants.{Nothing, Refused, Acknowledged, Byte, NoByte, Ticked}
-use Rattle.event.specs.Event.{indexIn, eventIn, refusalOf, fanStep, refusedStep, steppedChip}
+use Rattle.event.specs.Event.{indexIn, eventIn, refusalOf, refusedStep, steppedChip}
 use Rattle.event.specs.Refusal.{out-refused, in-taken}
 use Rattle.text.specs.Answers.{wroteLength, wroteInto}
 use Rattle.text.specs.Written.{wrote-none, wrote-zero}
@@ -82,7 +82,7 @@ module _ (s : Session) (out : List ℕ) where
   module _ (t : Setup) where
     -- no event: session and buffer stay
     nothing-comes : (n : ℕ) → eqb n 0 ≡ false → Comes (refusedLine s n) (askedNothing n false) t
-    unfolding takenAsked bufferAsked askedNothing isBegun steppedChip fanStep indexIn refusedStep takenBy refusedLine answerText
+    unfolding takenAsked bufferAsked askedNothing isBegun steppedChip eventIn indexIn refusedStep takenBy refusedLine answerText
     nothing-comes n h = record { taken = λ e. rw h; buffer = λ e. refl; set-up = λ e. absurd (never (cc)) }
 
     -- an answer that is no refusal is the line's

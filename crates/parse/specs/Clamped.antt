@@ -14,7 +14,7 @@ use Rattle.state.specs.declared.Count.the-variants as count
 use Rattle.event.specs.declared.Event.{Event}
 use Rattle.event.specs.declared.Event.the-variants.{Temperature, Voltage, Fan, Hot, Pin, Tick, Reset, Write, Read}
 use Rattle.sense.specs.Events.{tookTemperature, tookVoltage, tookFan, tookHot, tookPin}
-use Rattle.event.specs.Event.{indexIn, readingIn, countIn, levelIn, levelOf, quietStep, refusedStep, temperatureStep, voltageStep, fanStep, hotStep, pinStep, steppedChip}
+use Rattle.event.specs.Event.{indexIn, readingIn, countIn, levelIn, levelOf, eventIn, quietStep, refusedStep, takenStep, steppedChip}
 use Rattle.text.specs.Number.{saturated}
 use Rattle.parse.specs.declared.Parsed.{Parsed}
 use Rattle.parse.specs.declared.Parsed.the-variants.{Wrong, Fine}
@@ -80,7 +80,7 @@ level-unseen (count.Taken n) most h = within-unseen (levelIn most) count.Taken (
 
 -- no event can tell: it is refused or taken alike, and leaves and answers the same
 pub clamped-step : (c : Chip) (e : Event) → steppedChip c (clampedEvent e) ≡ steppedChip c e
-unfolding clampedEvent steppedChip temperatureStep voltageStep fanStep hotStep pinStep
+unfolding clampedEvent steppedChip eventIn takenStep
 clamped-step c (Temperature zone r) =
     both-unseen (λ i x. quietStep (tookTemperature c (i - 1) x)) (refusedStep c) (index-unseen zone 5 (omega arith)) (reading-unseen r)
 clamped-step c (Voltage channel n) =

@@ -41,5 +41,5 @@ pub fn take_line(session: &mut Session, line: &[u8], out: &mut [u8]) -> Reply
 pub fn dump(chip: &Chip, out: &mut [u8]) -> Dumped
     ensures { λ r. ⌜ (r ≡ dumpAnswer (now (out .entry))) × (now (out .exit) ≡ dumpedInto (now (chip .entry)) (now (out .entry))) ⌝ }
 {
-    bus::dump(*chip, out)
+    event::dump(*chip, out)
 }

@@ -16,7 +16,7 @@ use Rattle.state.specs.declared.Gauge.{Gauge}
 use Rattle.state.specs.declared.Count.the-variants.{Missing}
 use Rattle.state.specs.Parts.{noGauge, voltAt, fanAt}
 use Rattle.sense.specs.Errors.{markedVolt, markedFan, lowLimit, highLimit, fanLimit, fanLimitAt}
-use Rattle.sense.specs.Missing.{voltWatched, fanWatched, missedVolt, missedFan, missedVolts, missedFans, missed}
+use Rattle.sense.specs.Missing.{voltWatched, fanWatched, missedVolt, missedFan, missedVolts, missedFans, missedFile, missed}
 use Rattle.sense.specs.Standing.{errorsStanding, alertActive}
 use Rattle.sense.specs.Ones.{bits-le, bit-counts}
 use Rattle.sense.specs.Marks.{Marks, marks-then, VoltStands, FanStands, stands-stay, volt-stands, fan-stands, missed-volts-marks, missed-fans-marks}
@@ -98,7 +98,7 @@ module _ (c : Chip) where
   volts-mark = missed-volts-marks (c .registers) (c .volts) 0 16 (omega arith) (omega arith)
 
   fans-mark : Marks volts-done (missed c .registers)
-  unfolding missed missedFans
+  unfolding missed missedFile missedFans
   fans-mark = missed-fans-marks volts-done (c .fans) 0 4 (omega arith) (omega arith)
 
   -- a tick's marks set error bits and change nothing else of the file
@@ -112,6 +112,6 @@ module _ (c : Chip) where
 
   -- so has a watched fan that is missing
   pub missed-fan-stands : (i : ℕ) → i < 4 → length (c .registers) ≡ 256 → fanAt c i ≡ Missing → T (fanWatched (fanLimitAt (c .registers) i)) → FanStands (missed c .registers) i
-  unfolding fanAt missed
+  unfolding fanAt missed missedFile
   missed-fan-stands i l long e w =
       missed-fans-stand volts-done (c .fans) i e l (volts-mark .long ∙ long) (rw (fan-limit-same volts-mark i) w)

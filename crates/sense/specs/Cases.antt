@@ -12,7 +12,7 @@ use Rattle.state.specs.Parts.{registerAt, zoneAt}
 use Rattle.state.specs.With.{withRegister, withZone, withVolt}
 use Rattle.state.specs.PowerOn.{defaultSetup, powerOn, atRest}
 use Rattle.sense.specs.Errors.{withBit, markedVolt, markedFan, lowLimit, highLimit, isOutside, comparedVolt, fanLimit, fanLimitAt}
-use Rattle.sense.specs.Missing.{voltWatched, fanWatched, missedVolt, missedFan, missedVolts, missedFans, missed}
+use Rattle.sense.specs.Missing.{voltWatched, fanWatched, missedVolt, missedFan, missedVolts, missedFans, missedFile, missed}
 use Rattle.sense.specs.Standing.{bitsOf, errorsStanding, alertActive}
 use Rattle.sense.specs.Events.{voltReading, feedsThree, feedsFour, fedZone, tookVoltage, resetFile, tookReset}
 
@@ -30,12 +30,12 @@ channel-seven = (refl, refl, refl, refl, refl, refl)
 
 -- "fan limit 3FFFh with a missing count, no error"; with the limit 203Fh (B5h 80h) it is one, bit 0 of 47h and of 4Fh, and ALERT is active
 pub missing-fan : (errorsStanding (missed (powerOn defaultSetup) .registers) ≡ 0) × (errorsStanding (missed (withRegister (powerOn defaultSetup) 0xB5 0x80) .registers) ≡ 1) × (registerAt (missed (withRegister (powerOn defaultSetup) 0xB5 0x80)) 0x47 ≡ 0x01) × (registerAt (missed (withRegister (powerOn defaultSetup) 0xB5 0x80)) 0x4F ≡ 0x01) × (alertActive (missed (withRegister (powerOn defaultSetup) 0xB5 0x80) .registers) ≡ true) × (alertActive (tookReset (missed (withRegister (powerOn defaultSetup) 0xB5 0x80)) .registers) ≡ false) × (errorsStanding (tookReset (missed (withRegister (powerOn defaultSetup) 0xB5 0x80)) .registers) ≡ 1)
-unfolding missed missedVolts missedFans missedVolt missedFan voltWatched fanWatched markedVolt markedFan withBit lowLimit highLimit fanLimit fanLimitAt withRegister registerAt errorsStanding bitsOf alertActive isSet tookReset resetFile powerOn atRest defaultSetup defaults
+unfolding missed missedFile missedVolts missedFans missedVolt missedFan voltWatched fanWatched markedVolt markedFan withBit lowLimit highLimit fanLimit fanLimitAt withRegister registerAt errorsStanding bitsOf alertActive isSet tookReset resetFile powerOn atRest defaultSetup defaults
 missing-fan = (refl, refl, refl, refl, refl, refl, refl)
 
 -- a missing voltage with a limit is an error at the tick; channel 16, at bit 7 of 42h and of 4Ah
 pub missing-volt : (errorsStanding (missed (withRegister (powerOn defaultSetup) 0xAE 0x01) .registers) ≡ 1) × (registerAt (missed (withRegister (powerOn defaultSetup) 0xAE 0x01)) 0x42 ≡ 0x80) × (registerAt (missed (withRegister (powerOn defaultSetup) 0xAE 0x01)) 0x4A ≡ 0x80)
-unfolding missed missedVolts missedFans missedVolt missedFan voltWatched fanWatched markedVolt markedFan withBit lowLimit highLimit fanLimit fanLimitAt withRegister registerAt errorsStanding bitsOf powerOn atRest defaultSetup defaults
+unfolding missed missedFile missedVolts missedFans missedVolt missedFan voltWatched fanWatched markedVolt markedFan withBit lowLimit highLimit fanLimit fanLimitAt withRegister registerAt errorsStanding bitsOf powerOn atRest defaultSetup defaults
 missing-volt = (refl, refl, refl)
 
 -- "AD_IN11 of 0 missing, 1 gives 81h": with INT_AD11 set; INT_WR_E stops it, and T for zone 3 then changes nothing

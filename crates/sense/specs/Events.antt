@@ -1,8 +1,10 @@
 -- Document 01, "Events": T, V, F, H, A and X on the chip. Zones, channels, fans and inputs count from 0; one that is not there changes
 -- nothing. Assumes nothing.
+use mathlib.Core.Path.{_≡_}
 use mathlib.Core.Bool.{Bool, not}
 use mathlib.Core.List.{List}
-use Prim.Native.Nat.{ℕ, _-_, _%_}
+use Prim.Native.Nat.{ℕ, _-_, _%_, _<_}
+use borrow.Author.Tests.{lt-ltb}
 use lib.Bits.{bitAnd, bitOr}
 use lib.Dec.{eqb, ltb}
 use lib.ListN.{getD, set}
@@ -17,7 +19,7 @@ use Rattle.state.specs.declared.Count.{Count}
 use Rattle.state.specs.declared.Count.the-variants.{Taken, Missing}
 use Rattle.state.specs.Parts.{registerAt}
 use Rattle.state.specs.With.{withRegisters, withPin, withZone, withVolt, withFan, withHotInput}
-use Rattle.sense.specs.Errors.{comparedVolt, comparedFan}
+use Rattle.sense.specs.Errors.{comparedVolt, comparedFan, voltageFile, fanFile}
 
 -- ---- T
 
@@ -25,15 +27,13 @@ use Rattle.sense.specs.Errors.{comparedVolt, comparedFan}
 unfoldable pub zoneThreeFed : ℕ → Bool
 zoneThreeFed source = either (isSet source INT-AD11) (isSet source INT-WR-E)
 
--- whether T sets a zone
+-- "Zone 4 has no T event.": whether T sets a zone
 unfoldable pub zoneHeard : ℕ → ℕ → Bool
 zoneHeard source zone = either (ltb zone 4) (both (eqb zone 4) (not (zoneThreeFed source)))
 
--- "T, zone 1 to 5 (1a, 1b, 2a, 2b, zone 3)"; "Zone 4 has no T event."
+-- "T, zone 1 to 5 (1a, 1b, 2a, 2b, zone 3)"
 unfoldable pub tookTemperature : Chip → ℕ → Reading → Chip
-tookTemperature c zone r =
-    pick (ltb zone 4) (withZone c zone r)
-    (pick (eqb zone 4) (pick (zoneThreeFed (registerAt c TEMPERATURE-SOURCE-SELECT)) c (withZone c zone r)) c)
+tookTemperature c zone r = pick (zoneHeard (registerAt c TEMPERATURE-SOURCE-SELECT) zone) (withZone c zone r) c
 
 -- ---- V
 
@@ -59,10 +59,20 @@ unfoldable pub tookVoltage : Chip → ℕ → Count → Chip
 tookVoltage c channel n =
     pick (ltb channel 16) (fedZone (withRegisters (withVolt c channel n) (comparedVolt (c .registers) channel n)) channel n) c
 
+-- V on the parts: a channel that is there sets its reading and its error bits, and can feed a zone
+pub voltage-by-parts : (c : Chip) (channel : ℕ) (n : Count) → channel < 16 → tookVoltage c channel n ≡ fedZone (withRegisters (withVolt c channel n) (voltageFile (c .registers) channel n)) channel n
+unfolding tookVoltage voltageFile
+voltage-by-parts c channel n h = rw (lt-ltb channel 16 h)
+
 -- ---- F, H, A, X
 
 unfoldable pub tookFan : Chip → ℕ → Count → Chip
 tookFan c fan n = pick (ltb fan 4) (withRegisters (withFan c fan n) (comparedFan (c .registers) fan n)) c
+
+-- F on the parts
+pub fan-by-parts : (c : Chip) (fan : ℕ) (n : Count) → fan < 4 → tookFan c fan n ≡ withRegisters (withFan c fan n) (fanFile (c .registers) fan n)
+unfolding tookFan fanFile
+fan-by-parts c fan n h = rw (lt-ltb fan 4 h)
 
 unfoldable pub tookHot : Chip → ℕ → Bool → Chip
 tookHot c input hot = withHotInput c input hot

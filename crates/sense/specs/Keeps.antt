@@ -7,10 +7,11 @@ use mathlib.Core.List.{List}
 use Prim.Native.Nat.{ℕ, _≤_, _<_}
 use native.Mathlib.Omega.{arith}
 use borrow.Author.Tests.{ltb-true}
-use lib.Dec.{eqb, ltb}
+use lib.Dec.{ltb}
 use lib.ListN.{getD}
 use lib.Seq.{getD-set-other}
 use Rattle.laws.specs.Pick.{pick}
+use Rattle.laws.specs.Pointwise.{pick-each}
 use Rattle.map.specs.Names.{TEMPERATURE-SOURCE-SELECT, CONFIGURATION, SLEEP-STATE-CONTROL}
 use Rattle.temperature.specs.declared.Reading.{Reading}
 use Rattle.state.specs.declared.Chip.{Chip}
@@ -21,7 +22,7 @@ use Rattle.state.specs.Parts.{noZone, noGauge, registerAt, zoneAt, voltAt, fanA
 use Rattle.state.specs.With.{withRegisters, withZone, withVolt, withFan, withHotInput}
 use Rattle.sense.specs.Errors.{comparedVolt, comparedFan}
 use Rattle.sense.specs.Missing.{missed}
-use Rattle.sense.specs.Events.{zoneThreeFed, tookTemperature, voltReading, feedsThree, feedsFour, fedZone, tookVoltage, tookFan, tookHot, tookPin, resetFile, tookReset}
+use Rattle.sense.specs.Events.{zoneHeard, tookTemperature, voltReading, feedsThree, feedsFour, fedZone, tookVoltage, tookFan, tookHot, tookPin, resetFile, tookReset}
 use Rattle.sense.specs.Marks.{Marks, marks-none, compared-volt-marks, compared-fan-marks}
 
 -- ---- T: one zone's reading, and no other part
@@ -52,13 +53,8 @@ temperature-set c zone r =
 
 pub temperature-keeps : (c : Chip) (zone : ℕ) (r : Reading) → TemperatureKeeps c (tookTemperature c zone r) zone
 unfolding tookTemperature
-temperature-keeps c zone r = go (ltb zone 4) (eqb zone 4) (zoneThreeFed (registerAt c TEMPERATURE-SOURCE-SELECT))
-  where
-    go : (first third fed : Bool) → TemperatureKeeps c (pick first (withZone c zone r) (pick third (pick fed c (withZone c zone r)) c)) zone
-    go true third fed = temperature-set c zone r
-    go false true true = temperature-same c zone
-    go false true false = temperature-set c zone r
-    go false false fed = temperature-same c zone
+temperature-keeps c zone r =
+    pick-each (λ (d : Chip). TemperatureKeeps c d zone) (zoneHeard (registerAt c TEMPERATURE-SOURCE-SELECT) zone) (temperature-set c zone r) (temperature-same c zone)
 
 -- ---- V: one voltage, its error bits, and zone 3 or 4
 

@@ -7,5 +7,4 @@ pub mod Marks
 pub mod Alerts
 pub mod Keeps
 pub mod Events
-pub mod Heard
 pub mod Cases

@@ -1,4 +1,4 @@
--- Document 01, "Errors and ALERT": "At each tick every watched reading that is still missing sets its bit." Assumes nothing.
+-- Document 01, "Errors and ALERT": the marks that a tick sets. Assumes nothing.
 use mathlib.Core.Bool.{Bool, not}
 use mathlib.Core.List.{List}
 use Prim.Native.Nat.{ℕ, zero, suc}
@@ -38,5 +38,9 @@ unfoldable pub missedFans : List ℕ → List Gauge → ℕ → List ℕ
 missedFans file fans zero = file
 missedFans file fans (suc n) = missedFan (missedFans file fans n) n (getD fans n noGauge .count)
 
+-- "At each tick every watched reading that is still missing sets its bit.": the register file, and the chip
+unfoldable pub missedFile : List ℕ → List Gauge → List Gauge → List ℕ
+missedFile file volts fans = missedFans (missedVolts file volts 16) fans 4
+
 unfoldable pub missed : Chip → Chip
-missed c = withRegisters c (missedFans (missedVolts (c .registers) (c .volts) 16) (c .fans) 4)
+missed c = withRegisters c (missedFile (c .registers) (c .volts) (c .fans))

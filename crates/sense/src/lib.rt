@@ -2,15 +2,13 @@
 ghost use mathlib.Core.Path.{_≡_};
 ghost use Prim.Native.Nat.{_+_, _<_, _^_};
 ghost use Rattle.sense.specs.Errors.{withBit, markedVolt, markedFan, isOutside, fanLimit, comparedVolt, comparedFan, voltageFile, fanFile};
-ghost use Rattle.sense.specs.Missing.{voltWatched, fanWatched, missedVolt, missedFan, missedVolts, missedFans, missed};
+ghost use Rattle.sense.specs.Missing.{voltWatched, fanWatched, missedVolt, missedFan, missedVolts, missedFans, missedFile};
 ghost use Rattle.sense.specs.Standing.{bitsOf, errorsStanding, alertActive};
-ghost use Rattle.sense.specs.Events.{zoneThreeFed, zoneHeard, voltReading, feedsThree, feedsFour, tookHot, tookPin, tookReset};
+ghost use Rattle.sense.specs.Events.{zoneThreeFed, zoneHeard, voltReading, feedsThree, feedsFour, resetFile};
 use map::bits;
 use map::registers;
-use state::Chip;
 use state::Count;
 use state::Gauge;
-use state::Pin;
 use temperature::Reading;
 
 // A fan limit, or a fan count, that nothing exceeds.
@@ -192,15 +190,11 @@ fn miss_fans(file: &mut [u8; 256], fans: [Gauge; 4])
 }
 
 // At a tick every watched reading that is still missing sets its bit.
-pub fn mark_missing(chip: Chip) -> Chip
-    ensures { λ r. ⌜ r ≡ missed chip ⌝ }
+pub fn mark_missing(file: &mut [u8; 256], volts: [Gauge; 16], fans: [Gauge; 4])
+    ensures { λ _. ⌜ now (file .exit) ≡ missedFile (now (file .entry)) volts fans ⌝ }
 {
-    let volts = chip.volts;
-    let fans = chip.fans;
-    let mut next = chip;
-    miss_volts(&mut next.registers, volts);
-    miss_fans(&mut next.registers, fans);
-    next
+    miss_volts(file, volts);
+    miss_fans(file, fans);
 }
 
 // ---- errors standing, and ALERT
@@ -294,41 +288,12 @@ pub fn feeds_four(source: u8, channel: u8) -> bool
     false
 }
 
-// H: a hot input. Inputs count from 0; there are four.
-pub fn take_hot(chip: Chip, input: u8, hot: bool) -> Chip
-    ensures { λ r. ⌜ r ≡ tookHot chip input hot ⌝ }
-{
-    let at = input as usize;
-    let mut next = chip;
-    if at < 4 {
-        next.hot[at] = hot;
-    }
-    next
-}
-
-// A: the address pin's new level.
-pub fn take_pin(chip: Chip, level: u8) -> Chip
-    ensures { λ r. ⌜ r ≡ tookPin chip level ⌝ }
-{
-    let old = chip.pin;
-    let latch = old.latch;
-    let pin = Pin {
-        level: level,
-        latch: latch,
-    };
-    let mut next = chip;
-    next.pin = pin;
-    next
-}
-
 // X: the reset pin. It clears LOCK, sets GMSK and the sleep state S4/S5, and nothing else.
-pub fn take_reset(chip: Chip) -> Chip
-    ensures { λ r. ⌜ r ≡ tookReset chip ⌝ }
+pub fn take_reset(file: &mut [u8; 256])
+    ensures { λ _. ⌜ now (file .exit) ≡ resetFile (now (file .entry)) ⌝ }
 {
-    let configuration = chip.registers[registers::CONFIGURATION as usize];
-    let sleep = chip.registers[registers::SLEEP_STATE_CONTROL as usize];
-    let mut next = chip;
-    next.registers[registers::CONFIGURATION as usize] = (configuration & !bits::LOCK) | bits::GMSK;
-    next.registers[registers::SLEEP_STATE_CONTROL as usize] = sleep | bits::S4_5;
-    next
+    let configuration = file[registers::CONFIGURATION as usize];
+    let sleep = file[registers::SLEEP_STATE_CONTROL as usize];
+    file[registers::CONFIGURATION as usize] = (configuration & !bits::LOCK) | bits::GMSK;
+    file[registers::SLEEP_STATE_CONTROL as usize] = sleep | bits::S4_5;
 }

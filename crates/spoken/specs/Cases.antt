@@ -7,7 +7,7 @@ use lib.IntN.{pos}
 use Rattle.laws.specs.Every.{every}
 use Rattle.temperature.specs.declared.Reading.the-variants.{Taken}
 use Rattle.temperature.specs.Order.{missing}
-use Rattle.event.specs.Event.{indexIn, readingIn, quietStep, temperatureStep, tickAnswer, tickStep, steppedChip}
+use Rattle.event.specs.Event.{indexIn, readingIn, eventIn, quietStep, tickAnswer, takenStep, steppedChip}
 use Rattle.text.specs.Fields.{firstField, otherFields, fieldsOf, fieldAt}
 use Rattle.text.specs.Number.{isDigit, allDigits, valueOf, runOf, plusOf, minusOf, decimalOf, isSpelt}
 use Rattle.parse.specs.Parse.{letterOf, numberAt, indexOf, readingOf, pairOf, temperatureLine, aloneLine, eventOf}
@@ -44,15 +44,15 @@ unfolding startSession judgedLine judgedSetup judgedSettings begunLine settingsO
 setup-taken = refl
 
 warm-taken : (s : Session) → judgedLine s warm .refusal ≡ 0
-unfolding judgedLine judgedParsed judgedEvent judgedStep begunLine steppedChip temperatureStep indexIn readingIn quietStep eventOf letterOf fieldsOf firstField otherFields fieldAt temperatureLine pairOf readingOf numberAt indexOf decimalOf plusOf minusOf runOf allDigits isDigit valueOf isSpelt
+unfolding judgedLine judgedParsed judgedEvent judgedStep begunLine steppedChip eventIn takenStep indexIn readingIn quietStep eventOf letterOf fieldsOf firstField otherFields fieldAt temperatureLine pairOf readingOf numberAt indexOf decimalOf plusOf minusOf runOf allDigits isDigit valueOf isSpelt
 warm-taken s = refl
 
 lost-taken : (s : Session) → judgedLine s lost .refusal ≡ 0
-unfolding judgedLine judgedParsed judgedEvent judgedStep begunLine steppedChip temperatureStep indexIn readingIn quietStep eventOf letterOf fieldsOf firstField otherFields fieldAt temperatureLine pairOf readingOf numberAt indexOf decimalOf plusOf minusOf runOf allDigits isDigit valueOf isSpelt
+unfolding judgedLine judgedParsed judgedEvent judgedStep begunLine steppedChip eventIn takenStep indexIn readingIn quietStep eventOf letterOf fieldsOf firstField otherFields fieldAt temperatureLine pairOf readingOf numberAt indexOf decimalOf plusOf minusOf runOf allDigits isDigit valueOf isSpelt
 lost-taken s = refl
 
 tick-taken : (s : Session) → judgedLine s tick .refusal ≡ 0
-unfolding judgedLine judgedParsed judgedEvent judgedStep begunLine steppedChip tickStep tickAnswer eventOf letterOf fieldsOf firstField otherFields fieldAt aloneLine
+unfolding judgedLine judgedParsed judgedEvent judgedStep begunLine steppedChip eventIn takenStep tickAnswer eventOf letterOf fieldsOf firstField otherFields fieldAt aloneLine
 tick-taken s = refl
 
 pub warm-all : AllTaken startSession (setup ∷ warm ∷ tick ∷ [])

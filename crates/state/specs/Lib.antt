@@ -1,6 +1,7 @@
 pub mod Parts
 pub mod With
 pub mod PowerOn
+pub mod Made
 pub mod Valid
 pub mod ValidDefault
 pub mod Order

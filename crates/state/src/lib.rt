@@ -1,8 +1,7 @@
 // The chip's state: what a setup holds, what the chip holds, and the chip at power-on.
 ghost use mathlib.Core.Path.{_≡_};
-ghost use lib.ListN.{getD};
+ghost use lib.ListN.{getD, set};
 ghost use Rattle.state.specs.Parts.{noZone, noGauge};
-ghost use Rattle.state.specs.With.{withZone};
 ghost use Rattle.map.specs.Tables.{defaults};
 ghost use Rattle.state.specs.PowerOn.{defaultSetup, powerOn, atRest};
 use temperature::Reading;
@@ -224,15 +223,15 @@ pub fn fan_at(fans: [Gauge; 4], fan: u8) -> Count
     Count::Missing
 }
 
-// The chip with a zone's reading; unchanged where there is no such zone.
-pub fn with_zone(chip: Chip, zone: u8, reading: Reading) -> Chip
-    ensures { λ r. ⌜ r ≡ withZone chip zone reading ⌝ }
+// The readings with that of one zone replaced; unchanged where there is no such zone.
+pub fn with_reading(zones: [Zone; 6], zone: u8, reading: Reading) -> [Zone; 6]
+    ensures { λ r. ⌜ r ≡ set zones zone (record { reading = reading }) ⌝ }
 {
     let at = zone as usize;
-    let mut next = chip;
+    let mut next = zones;
     if at < 6 {
         let z = Zone { reading: reading };
-        next.zones[at] = z;
+        next[at] = z;
     }
     next
 }

@@ -3,7 +3,7 @@
 use mathlib.Core.Bool.{Bool}
 use mathlib.Core.List.{List}
 use Prim.Native.Nat.{ℕ}
-use lib.Dec.{eqb, ltb}
+use lib.Dec.{ltb}
 use Rattle.laws.specs.Pointwise.{pick-related}
 use Rattle.map.specs.declared.Kind.{Kind}
 use Rattle.map.specs.declared.Kind.the-variants.{Plain, Status, Whole, Half, Volt, FanLow, FanHigh, VoltLow, VoltHigh, FanLimitLow, FanLimitHigh}
@@ -21,10 +21,10 @@ use Rattle.state.specs.With.{withRegisters, withRegister, withZone, withVolt, w
 use Rattle.state.specs.Order.{NoHigher, Cooler}
 use Rattle.sense.specs.Errors.{comparedVolt}
 use Rattle.sense.specs.Missing.{missed}
-use Rattle.sense.specs.Events.{zoneThreeFed, tookTemperature, feedsThree, feedsFour, fedZone, tookVoltage, tookFan, tookHot, tookPin, tookReset}
-use Rattle.bus.specs.declared.Written.{Written}
+use Rattle.sense.specs.Events.{zoneHeard, tookTemperature, feedsThree, feedsFour, fedZone, tookVoltage, tookFan, tookHot, tookPin, tookReset}
+use Rattle.bus.specs.declared.Change.{Change}
 use Rattle.bus.specs.Latch.{isOurs, transacted}
-use Rattle.bus.specs.Write.{stored, cleared, zoneWritable, wroteWhole, wroteHalf, wroteKind, isShut, wroteHome, wroteRegister, wroteByte}
+use Rattle.bus.specs.Write.{stored, cleared, zoneWritable, changeWhole, changeHalf, changeKind, isShut, changeHome, changeOf, changed, wroteRegister, Written, wroteByte}
 use Rattle.bus.specs.Read.{readByte}
 use Rattle.bus.specs.Transactions.{read-chip}
 use Rattle.theorems.specs.Beside.{ZonesCooler, zones-set, same-but, beside}
@@ -48,8 +48,7 @@ module _ (c : Chip) {zs : List Zone} {x : Drive} (z : ZonesCooler (c .zones) zs)
   pub temperature-cooler : (zone : ℕ) {r s : Reading} → NoHotter r s → Cooler (tookTemperature c zone r) (tookTemperature d zone s)
   unfolding tookTemperature registerAt
   temperature-cooler zone p =
-      pick-related Cooler (ltb zone 4) (zone-cooler zone p)
-      (pick-related Cooler (eqb zone 4) (pick-related Cooler (zoneThreeFed (registerAt c TEMPERATURE-SOURCE-SELECT)) itself (zone-cooler zone p)) itself)
+      pick-related Cooler (zoneHeard (registerAt c TEMPERATURE-SOURCE-SELECT) zone) (zone-cooler zone p) itself
 
   -- V, the zone that a channel feeds: the same reading
   fed-cooler : (channel : ℕ) (count : Count) → Cooler (fedZone c channel count) (fedZone d channel count)
@@ -88,15 +87,19 @@ module _ (c : Chip) {zs : List Zone} {x : Drive} (z : ZonesCooler (c .zones) zs)
   unfolding transacted
   transacted-cooler address = same-but z n
 
-  -- W, by the register's kind: a whole byte gives both zones the same reading, a half bit keeps their order
-  kind-cooler : (a byte : ℕ) (kind : Kind) → Cooler (wroteKind c a byte kind) (wroteKind d a byte kind)
-  unfolding wroteKind stored cleared withRegister registerAt wroteWhole wroteHalf zoneAt
+  -- W, what it changes of two chips
+  abbrev Alters : Change → Change → Type 0
+  Alters v w = Cooler (changed c v) (changed d w)
+
+  -- by the register's kind: a whole byte gives both zones the same reading, a half bit keeps their order
+  kind-cooler : (a byte : ℕ) (kind : Kind) → Alters (changeKind c a byte kind) (changeKind d a byte kind)
+  unfolding changed changeKind stored cleared withRegister registerAt changeWhole changeHalf zoneAt
   kind-cooler a byte Plain = same-but z n
   kind-cooler a byte Status = same-but z n
   kind-cooler a byte (Whole zone) =
-      pick-related Cooler (zoneWritable (registerAt c TEMPERATURE-SOURCE-SELECT) zone) (zone-cooler zone (no-hotter-refl _)) itself
+      pick-related Alters (zoneWritable (registerAt c TEMPERATURE-SOURCE-SELECT) zone) (zone-cooler zone (no-hotter-refl _)) itself
   kind-cooler a byte (Half zone) =
-      pick-related Cooler (zoneWritable (registerAt c TEMPERATURE-SOURCE-SELECT) zone) (zone-cooler zone (half-mono _ (z .each zone))) itself
+      pick-related Alters (zoneWritable (registerAt c TEMPERATURE-SOURCE-SELECT) zone) (zone-cooler zone (half-mono _ (z .each zone))) itself
   kind-cooler a byte (Volt i) = itself
   kind-cooler a byte (FanLow i) = itself
   kind-cooler a byte (FanHigh i) = itself
@@ -107,9 +110,9 @@ module _ (c : Chip) {zs : List Zone} {x : Drive} (z : ZonesCooler (c .zones) zs)
 
   -- W, the register: LOCK shuts it for both or for neither
   register-cooler : (a byte : ℕ) → Cooler (wroteRegister c a byte) (wroteRegister d a byte)
-  unfolding wroteRegister wroteHome registerAt
+  unfolding wroteRegister changed changeOf changeHome registerAt
   register-cooler a byte =
-      pick-related Cooler (isShut (registerAt c CONFIGURATION) (homeOf a)) itself (kind-cooler (homeOf a) byte (kindOf (homeOf a)))
+      pick-related Alters (isShut (registerAt c CONFIGURATION) (homeOf a)) itself (kind-cooler (homeOf a) byte (kindOf (homeOf a)))
 
 module _ (c : Chip) {zs : List Zone} {x : Drive} (z : ZonesCooler (c .zones) zs) (n : NoHigher (c .drive) x) where
   -- V

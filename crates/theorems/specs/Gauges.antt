@@ -1,11 +1,12 @@
 -- What events leave of the voltages and fan counts: a reading that is missing stays so until its own event gives one. Assumes nothing.
 use mathlib.Core.Path.{_≡_, refl, ap, _∙_}
+use mathlib.Core.Bool.{Bool, true, false}
 use mathlib.Core.List.{List}
 use Prim.Native.Nat.{ℕ, zero, suc, _-_}
 use native.Mathlib.Omega.{arith}
 use lib.Dec.{ltb}
 use lib.ListN.{getD, set}
-use Rattle.laws.specs.Pick.{both}
+use Rattle.laws.specs.Pick.{pick}
 use Rattle.laws.specs.Pointwise.{pick-each}
 use Rattle.laws.specs.Store.{set-cases}
 use Rattle.map.specs.Names.{TEMPERATURE-SOURCE-SELECT}
@@ -15,14 +16,15 @@ use Rattle.state.specs.declared.Count.{Count}
 use Rattle.state.specs.declared.Count.the-variants.{Taken, Missing}
 use Rattle.state.specs.Parts.{noGauge, registerAt, voltAt, fanAt}
 use Rattle.state.specs.With.{withZone, withVolt, withFan}
+use Rattle.sense.specs.Missing.{missed}
 use Rattle.sense.specs.Events.{feedsThree, feedsFour, fedZone, tookVoltage, tookFan}
 use Rattle.sense.specs.Keeps.{temperature-keeps, voltage-keeps, fan-keeps, hot-keeps, pin-keeps, reset-keeps, missed-keeps}
+use Rattle.bus.specs.Changes.{never}
 use Rattle.bus.specs.Transactions.{write-keeps, read-keeps}
+use Rattle.drive.specs.TickOrder.{tick-keeps}
 use Rattle.event.specs.declared.Event.{Event}
 use Rattle.event.specs.declared.Event.the-variants.{Temperature, Voltage, Fan, Hot, Pin, Tick, Reset, Write, Read}
-use Rattle.event.specs.declared.Stepped.{Stepped}
-use Rattle.event.specs.Event.{indexIn, readingIn, countIn, levelIn, quietStep, refusedStep, temperatureStep, voltageStep, fanStep, hotStep, pinStep, writtenAnswer, writeStep, readAnswer, readStep, steppedChip}
-use Rattle.event.specs.Ticking.{tick-leaves}
+use Rattle.event.specs.Event.{indexIn, eventIn, quietStep, refusedStep, tickAnswer, writtenAnswer, readAnswer, takenStep, steppedChip}
 
 -- ---- events that give no voltage and no fan count
 
@@ -35,40 +37,25 @@ pub record SameGauges (c d : Chip) : Type 0 where
 pub data Gives : Event → Type 0 where
   volt : (channel : ℕ) (n : Count) → Gives (Voltage channel n)
   fan : (number : ℕ) (n : Count) → Gives (Fan number n)
-  neither : {e : Event} → ((c : Chip) → SameGauges c (steppedChip c e .chip)) → Gives e
-
--- a step leaves them
-abbrev Leaves : Chip → Stepped → Type 0
-Leaves c s = SameGauges c (s .chip)
-
--- a refused one does
-refused : (c : Chip) → Leaves c (refusedStep c)
-unfolding refusedStep
-refused c = record { volts = refl; fans = refl }
+  neither : {e : Event} → ((c : Chip) → SameGauges c (takenStep c e .chip)) → Gives e
 
 -- T, H, A, K, X, W and R leave them
 pub gives : (e : Event) → Gives e
-unfolding steppedChip temperatureStep hotStep pinStep quietStep writeStep writtenAnswer readStep readAnswer
+unfolding takenStep quietStep tickAnswer writtenAnswer readAnswer
 gives (Temperature zone r) =
-    neither (λ c. let k = temperature-keeps c (zone - 1) r in
-    pick-each (Leaves c) (both (indexIn 5 zone) (readingIn r)) (record { volts = k .volts; fans = k .fans }) (refused c))
+    neither (λ c. let k = temperature-keeps c (zone - 1) r in record { volts = k .volts; fans = k .fans })
 gives (Voltage channel n) = volt channel n
 gives (Fan number n) = fan number n
-gives (Hot input level) =
-    neither (λ c. let k = hot-keeps c (input - 1) _ in
-    pick-each (Leaves c) (both (indexIn 4 input) (levelIn 1 level)) (record { volts = k .volts; fans = k .fans }) (refused c))
-gives (Pin level) =
-    neither (λ c. let k = pin-keeps c _ in
-    pick-each (Leaves c) (levelIn 2 level) (record { volts = k .volts; fans = k .fans }) (refused c))
+gives (Hot input level) = neither (λ c. let k = hot-keeps c (input - 1) _ in record { volts = k .volts; fans = k .fans })
+gives (Pin level) = neither (λ c. let k = pin-keeps c _ in record { volts = k .volts; fans = k .fans })
 gives Tick =
-    neither (λ c. record { volts = tick-leaves c .volts ∙ missed-keeps c .volts; fans = tick-leaves c .fans ∙ missed-keeps c .fans })
+    neither (λ c. let k = tick-keeps (missed c) in
+    record { volts = k .volts ∙ missed-keeps c .volts; fans = k .fans ∙ missed-keeps c .fans })
 gives Reset = neither (λ c. record { volts = reset-keeps c .volts; fans = reset-keeps c .fans })
 gives (Write address a byte) =
-    neither (λ c. let k = write-keeps c address a byte in
-    pick-each (Leaves c) (ltb 0x7F address) (refused c) (record { volts = k .volts; fans = k .fans }))
+    neither (λ c. let k = write-keeps c address a byte in record { volts = k .volts; fans = k .fans })
 gives (Read address a) =
-    neither (λ c. let k = read-keeps c address a .kept in
-    pick-each (Leaves c) (ltb 0x7F address) (refused c) (record { volts = k .volts; fans = k .fans }))
+    neither (λ c. let k = read-keeps c address a .kept in record { volts = k .volts; fans = k .fans })
 
 -- ---- V and F
 
@@ -102,22 +89,33 @@ module _ (c : Chip) (i : ℕ) where
   unfolding tookFan withFan fanAt
   fan-missing j n m own = pick-each (λ (d : Chip). fanAt d i ≡ Missing) (ltb j 4) (stays (c .fans) i j n m own) m
 
+  volt-left : {e : Event} → Gives e → ((n : ℕ) → e ≡ Voltage (suc i) (Taken n) → ⊥) → eventIn e ≡ true → voltAt c i ≡ Missing → voltAt (takenStep c e .chip) i ≡ Missing
+  unfolding eventIn indexIn takenStep quietStep voltAt
+  volt-left (volt zero n) h r m = absurd (never (cc))
+  volt-left (volt (suc k) n) h r m = voltage-missing (suc k - 1) n m (unless-taken Voltage i k n h)
+  volt-left (fan number n) h r m = rw (fan-keeps c (number - 1) n .volts) m
+  volt-left (neither f) h r m = rw (f c .volts, voltAt) m
+
+  fan-left : {e : Event} → Gives e → ((n : ℕ) → e ≡ Fan (suc i) (Taken n) → ⊥) → eventIn e ≡ true → fanAt c i ≡ Missing → fanAt (takenStep c e .chip) i ≡ Missing
+  unfolding eventIn indexIn takenStep quietStep fanAt
+  fan-left (volt channel n) h r m = rw (voltage-keeps c (channel - 1) n .fans) m
+  fan-left (fan zero n) h r m = absurd (never (cc))
+  fan-left (fan (suc k) n) h r m = fan-missing (suc k - 1) n m (unless-taken Fan i k n h)
+  fan-left (neither f) h r m = rw (f c .fans, fanAt) m
+
+  -- what holds of a chip and of what an event in range leaves holds of what any event leaves
+  step-left : (P : Chip → Type 0) (e : Event) → (eventIn e ≡ true → P (takenStep c e .chip)) → P c → P (steppedChip c e .chip)
+  unfolding steppedChip refusedStep
+  step-left P e taken kept = go (eventIn e) taken
+    where
+      go : (t : Bool) → (t ≡ true → P (takenStep c e .chip)) → P (pick t (takenStep c e) (refusedStep c) .chip)
+      go true f = f refl
+      go false f = kept
+
   -- a missing voltage stays missing under an event that does not give it a taken reading
   pub volt-stays : {e : Event} → Gives e → ((n : ℕ) → e ≡ Voltage (suc i) (Taken n) → ⊥) → voltAt c i ≡ Missing → voltAt (steppedChip c e .chip) i ≡ Missing
-  unfolding steppedChip voltageStep fanStep quietStep refusedStep indexIn voltAt
-  volt-stays (volt zero n) h m = m
-  volt-stays (volt (suc k) n) h m =
-      pick-each (λ (s : Stepped). voltAt (s .chip) i ≡ Missing) (both (indexIn 16 (suc k)) (countIn 255 n)) (voltage-missing (suc k - 1) n m (unless-taken Voltage i k n h)) m
-  volt-stays (fan number n) h m =
-      pick-each (λ (s : Stepped). voltAt (s .chip) i ≡ Missing) (both (indexIn 4 number) (countIn 16383 n)) (rw (fan-keeps c (number - 1) n .volts) m) m
-  volt-stays (neither f) h m = rw (f c .volts, voltAt) m
+  volt-stays {e} g h m = step-left (λ (d : Chip). voltAt d i ≡ Missing) e (λ r. volt-left g h r m) m
 
   -- a missing fan count stays missing under an event that does not give it a taken reading
   pub fan-stays : {e : Event} → Gives e → ((n : ℕ) → e ≡ Fan (suc i) (Taken n) → ⊥) → fanAt c i ≡ Missing → fanAt (steppedChip c e .chip) i ≡ Missing
-  unfolding steppedChip voltageStep fanStep quietStep refusedStep indexIn fanAt
-  fan-stays (volt channel n) h m =
-      pick-each (λ (s : Stepped). fanAt (s .chip) i ≡ Missing) (both (indexIn 16 channel) (countIn 255 n)) (rw (voltage-keeps c (channel - 1) n .fans) m) m
-  fan-stays (fan zero n) h m = m
-  fan-stays (fan (suc k) n) h m =
-      pick-each (λ (s : Stepped). fanAt (s .chip) i ≡ Missing) (both (indexIn 4 (suc k)) (countIn 16383 n)) (fan-missing (suc k - 1) n m (unless-taken Fan i k n h)) m
-  fan-stays (neither f) h m = rw (f c .fans, fanAt) m
+  fan-stays {e} g h m = step-left (λ (d : Chip). fanAt d i ≡ Missing) e (λ r. fan-left g h r m) m

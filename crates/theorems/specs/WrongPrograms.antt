@@ -14,15 +14,15 @@ use Rattle.map.specs.Slave.{slaveAddress}
 use Rattle.state.specs.Parts.{registerAt}
 use Rattle.state.specs.With.{withRegister}
 use Rattle.state.specs.PowerOn.{defaultSetup, powerOn}
-use Rattle.bus.specs.Latch.{latchBy, latchAfter, isOurs, transacted}
-use Rattle.bus.specs.Write.{storedByte, stored, wroteKind, isShut, wroteHome, wroteRegister, wroteByte}
+use Rattle.bus.specs.Latch.{latchBy, latchAfter, transactedPin, isOurs, transacted}
+use Rattle.bus.specs.Write.{storedByte, stored, changeKind, isShut, changeHome, changeOf, changed, wroteRegister, wroteByte}
 use Rattle.bus.specs.Read.{shownKind, shownHome, shownRegister, readByte}
 use Rattle.bus.specs.Changes.{never}
 use Rattle.event.specs.declared.Event.the-variants.{Write, Read}
 use Rattle.event.specs.declared.Answer.{Answer}
 use Rattle.event.specs.declared.Answer.the-variants.{Nothing, Refused, Acknowledged, Byte, Ticked}
 use Rattle.event.specs.declared.Tick.{Tick}
-use Rattle.event.specs.Event.{writtenAnswer, writeStep, seenAnswer, readAnswer, readStep, steppedChip}
+use Rattle.event.specs.Event.{eventIn, writtenAnswer, seenAnswer, readAnswer, takenStep, steppedChip}
 use Rattle.event.specs.Run.{answersTo}
 use Rattle.event.specs.Session.{session, answers, session-answers}
 
@@ -60,7 +60,7 @@ does-nothing e = never (fourth-errors _ (ap (λ (l : List Answer). getD l 8 Noth
 
 -- and what is written is read: BFh has 00h at power-on, and 01h after W 2C BF 01
 pub write-is-read : answersTo (powerOn defaultSetup) (Read 0x2C 0xBF ∷ Write 0x2C 0xBF 0x01 ∷ Read 0x2C 0xBF ∷ []) ≡ Byte 0x00 ∷ Acknowledged true ∷ Byte 0x01 ∷ []
-unfolding answersTo steppedChip writtenAnswer writeStep seenAnswer readAnswer readStep wroteByte readByte transacted latchAfter latchBy isOurs slaveAddress wroteRegister wroteHome wroteKind isShut stored storedByte shownRegister shownHome shownKind registerAt withRegister homeOf homes kindOf writableOf writables lockMarked lockMarks isSet powerOn defaultSetup defaults
+unfolding answersTo steppedChip eventIn takenStep writtenAnswer seenAnswer readAnswer wroteByte readByte transacted transactedPin latchAfter latchBy isOurs slaveAddress wroteRegister changed changeOf changeHome changeKind isShut stored storedByte shownRegister shownHome shownKind registerAt withRegister homeOf homes kindOf writableOf writables lockMarked lockMarks isSet powerOn defaultSetup defaults
 write-is-read = refl
 
 -- "One that runs the tables on the first tick only breaks demand 2 at the second K above"

@@ -8,16 +8,18 @@ use lib.ListN.{length, drop, length-set}
 use borrow.Author.Needs.{needs}
 use borrow.Author.Tests.{lt-ltb, le-ltb}
 use Rattle.laws.specs.Tab.{tab, tab-none, tab-more}
+use Rattle.state.specs.Made.{ofReadings}
 use Rattle.bus.specs.Read.{shownRegister}
 use Rattle.bus.specs.Dump.{shownAll, dumpAnswer, dumpedInto}
 use Rattle.bus.proofs.dump.Statement.{statement}
 use Rattle.bus.proofs.dump.Tie as tie
 
 abbrev Inv-loop : tie.InvT-loop
-Inv-loop chip out₀ i₀ out i = (i ≤ 256) × (256 ≤ length out₀) × (length out ≡ length out₀) × (out ≡ tab (shownRegister chip) i ++ drop i out₀)
+Inv-loop file zones volts fans out₀ i₀ out i =
+    (i ≤ 256) × (256 ≤ length out₀) × (length out ≡ length out₀) × (out ≡ tab (shownRegister (ofReadings file zones volts fans)) i ++ drop i out₀)
 
 abbrev μ-loop : tie.MeasureT-loop
-μ-loop chip out₀ i₀ out i = 256 - i
+μ-loop file zones volts fans out₀ i₀ out i = 256 - i
 
 returns : tie.Need-returns Inv-loop μ-loop
 unfolding dumpAnswer dumpedInto

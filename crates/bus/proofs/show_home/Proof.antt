@@ -112,27 +112,27 @@ element-copy-out-result-6 c = search needs
 returns : tie.Need-returns
 unfolding shownKind zoneAt
 returns c =
-    arm _ _ (c .before .before .before .before .before .before .kind-of .ensures) (c .before .before .before .before .zone .given .1) (c .whole-byte .ensures ∙ ap wholeByte (c .before .zone-at .ensures))
+    arm _ _ (c .before .before .before .before .before .kind-of .ensures) (c .before .before .before .zone .given .1) (c .whole-byte .ensures ∙ ap wholeByte (c .before .zone-at .ensures))
 
 returns-2 : tie.Need-returns-2
 unfolding shownKind zoneAt
 returns-2 c =
-    arm _ _ (c .before .before .before .before .before .before .kind-of .ensures) (c .before .before .before .before .zone2 .given .1) (c .half-byte .ensures ∙ ap halfByte (c .before .zone-at2 .ensures))
+    arm _ _ (c .before .before .before .before .before .kind-of .ensures) (c .before .before .before .zone2 .given .1) (c .half-byte .ensures ∙ ap halfByte (c .before .zone-at2 .ensures))
 
 returns-3 : tie.Need-returns-3
 unfolding shownKind voltAt
 returns-3 c =
-    arm _ _ (c .before .before .before .before .before .before .kind-of .ensures) (c .before .before .before .before .channel .given .1) (c .volt-byte .ensures ∙ ap voltByte (c .before .volt-at .ensures))
+    arm _ _ (c .before .before .before .before .before .kind-of .ensures) (c .before .before .before .channel .given .1) (c .volt-byte .ensures ∙ ap voltByte (c .before .volt-at .ensures))
 
 returns-4 : tie.Need-returns-4
 unfolding shownKind fanAt
 returns-4 c =
-    arm _ _ (c .before .before .before .before .before .before .kind-of .ensures) (c .before .before .before .before .fan .given .1) (rw (c .fan-word .ensures, c .before .fan-at .ensures))
+    arm _ _ (c .before .before .before .before .before .kind-of .ensures) (c .before .before .before .fan .given .1) (rw (c .fan-word .ensures, c .before .fan-at .ensures))
 
 returns-5 : tie.Need-returns-5
 unfolding shownKind fanAt
 returns-5 c =
-    arm _ _ (c .before .before .before .before .before .before .kind-of .ensures) (c .before .before .before .before .fan2 .given .1) (rw (c .fan-word2 .ensures, c .before .fan-at2 .ensures))
+    arm _ _ (c .before .before .before .before .before .kind-of .ensures) (c .before .before .before .fan2 .given .1) (rw (c .fan-word2 .ensures, c .before .fan-at2 .ensures))
 
 returns-6 : tie.Need-returns-6
 unfolding shownKind registerAt

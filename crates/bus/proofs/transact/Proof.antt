@@ -1,4 +1,4 @@
-use Rattle.bus.specs.Latch.{transacted}
+use Rattle.bus.specs.Latch.{transactedPin}
 use borrow.Author.Needs.{needs}
 use Rattle.bus.proofs.transact.Statement.{statement}
 use Rattle.bus.proofs.transact.Tie as tie
@@ -7,7 +7,7 @@ latch-after-requires : tie.Need-latch-after-requires
 latch-after-requires c κs = search needs
 
 returns : tie.Need-returns
-unfolding transacted
+unfolding transactedPin
 returns c = rw (c .latch-after .ensures)
 
 pub transact-spec : {M : Type 1} → statement M

@@ -26,8 +26,8 @@ element-copy-out-control c = search needs
 followed-zone-requires : tie.Need-followed-zone-requires
 followed-zone-requires c κs = search needs
 
-element-copy-out-old : tie.Need-element-copy-out-old
-element-copy-out-old c = search needs
+array-read-was : tie.Need-array-read-was
+array-read-was c = search needs
 
 table-of-requires : tie.Need-table-of-requires
 table-of-requires c κs = search needs
@@ -40,7 +40,7 @@ asked-duty-requires c κs = search needs
 
 returns : tie.Need-returns
 unfolding askAfter stepAfter followed registerAt
-returns c = rw (c .asked-duty .ensures, c .before .before .new-step .ensures, c .before .before .before .table-of .ensures, c .before .before .before .before .before .followed-zone .ensures)
+returns c = rw (c .asked-duty .ensures, c .before .before .new-step .ensures, c .before .before .before .table-of .ensures, c .before .before .before .before .followed-zone .ensures)
 
 pub ask-after-spec : {M : Type 1} → statement M
 ask-after-spec =
@@ -53,7 +53,7 @@ ask-after-spec =
     cast-control
     element-copy-out-control
     followed-zone-requires
-    element-copy-out-old
+    array-read-was
     table-of-requires
     new-step-requires
     asked-duty-requires

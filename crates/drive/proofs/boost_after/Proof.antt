@@ -7,8 +7,8 @@ use Rattle.drive.proofs.boost_after.Tie as tie
 mul-z : tie.Need-mul-z
 mul-z c = search needs
 
-element-copy-out-z : tie.Need-element-copy-out-z
-element-copy-out-z c = search needs
+array-copy-out-z : tie.Need-array-copy-out-z
+array-copy-out-z c = search needs
 
 mul-b : tie.Need-mul-b
 mul-b c = search needs
@@ -16,8 +16,8 @@ mul-b c = search needs
 element-copy-out-b : tie.Need-element-copy-out-b
 element-copy-out-b c = search needs
 
-element-copy-out-was : tie.Need-element-copy-out-was
-element-copy-out-was c = search needs
+array-read-was : tie.Need-array-read-was
+array-read-was c = search needs
 
 cast-source : tie.Need-cast-source
 cast-source c = search needs
@@ -40,10 +40,10 @@ boost-after-spec =
     tie.close
     (tie.spec
     mul-z
-    element-copy-out-z
+    array-copy-out-z
     mul-b
     element-copy-out-b
-    element-copy-out-was
+    array-read-was
     cast-source
     element-copy-out-source
     boost-enabled-requires

@@ -6,20 +6,20 @@ use Rattle.drive.proofs.kick_after.Tie as tie
 mul-kicked-fan : tie.Need-mul-kicked-fan
 mul-kicked-fan c = search needs
 
+array-read-kicked-fan : tie.Need-array-read-kicked-fan
+array-read-kicked-fan c = search needs
+
+array-read-kicked-fan-2 : tie.Need-array-read-kicked-fan-2
+array-read-kicked-fan-2 c = search needs
+
+mul-kicked-fan-2 : tie.Need-mul-kicked-fan-2
+mul-kicked-fan-2 c = search needs
+
 element-copy-out-kicked-fan : tie.Need-element-copy-out-kicked-fan
 element-copy-out-kicked-fan c = search needs
 
 element-copy-out-kicked-fan-2 : tie.Need-element-copy-out-kicked-fan-2
 element-copy-out-kicked-fan-2 c = search needs
-
-mul-kicked-fan-2 : tie.Need-mul-kicked-fan-2
-mul-kicked-fan-2 c = search needs
-
-element-copy-out-kicked-fan-3 : tie.Need-element-copy-out-kicked-fan-3
-element-copy-out-kicked-fan-3 c = search needs
-
-element-copy-out-kicked-fan-4 : tie.Need-element-copy-out-kicked-fan-4
-element-copy-out-kicked-fan-4 c = search needs
 
 kicked-fan-requires : tie.Need-kicked-fan-requires
 kicked-fan-requires c κs = search needs
@@ -33,10 +33,10 @@ kick-after-spec =
     tie.close
     (tie.spec
     mul-kicked-fan
+    array-read-kicked-fan
+    array-read-kicked-fan-2
+    mul-kicked-fan-2
     element-copy-out-kicked-fan
     element-copy-out-kicked-fan-2
-    mul-kicked-fan-2
-    element-copy-out-kicked-fan-3
-    element-copy-out-kicked-fan-4
     kicked-fan-requires
     returns)

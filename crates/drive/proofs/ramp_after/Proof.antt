@@ -7,11 +7,11 @@ use Rattle.drive.proofs.ramp_after.Tie as tie
 mul-ramp : tie.Need-mul-ramp
 mul-ramp c = search needs
 
-element-copy-out-ramp : tie.Need-element-copy-out-ramp
-element-copy-out-ramp c = search needs
+array-copy-out-ramp : tie.Need-array-copy-out-ramp
+array-copy-out-ramp c = search needs
 
-element-copy-out-hot : tie.Need-element-copy-out-hot
-element-copy-out-hot c = search needs
+array-read-is-hot : tie.Need-array-read-is-hot
+array-read-is-hot c = search needs
 
 cast-control : tie.Need-cast-control
 cast-control c = search needs
@@ -34,8 +34,8 @@ ramp-after-spec =
     tie.close
     (tie.spec
     mul-ramp
-    element-copy-out-ramp
-    element-copy-out-hot
+    array-copy-out-ramp
+    array-read-is-hot
     cast-control
     element-copy-out-control
     delay-of-requires

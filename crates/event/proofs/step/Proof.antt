@@ -1,27 +1,31 @@
+-- `event::step` meets its contract: in each arm g is where the event was told apart, and p says that its numbers are in range.
+-- Assumes nothing.
 use mathlib.Core.Path.{sym, _∙_}
 use native.Mathlib.Omega.{arith}
-use lib.Dec.{ltb}
 use borrow.Author.Needs.{needs}
 use Rattle.state.specs.Parts.{registerAt}
-use Rattle.state.specs.With.{withZone, withVolt, withFan}
-use Rattle.sense.specs.Events.{fedZone}
-use Rattle.sense.specs.Heard.{heard-temperature, heard-voltage, heard-fan}
-use Rattle.bus.specs.Latch.{transacted}
-use Rattle.bus.specs.Transactions.{read-chip}
-use Rattle.event.specs.Event.{quietStep, refusedStep, temperatureStep, voltageStep, fanStep, readAnswer, readStep, steppedChip}
-use Rattle.event.specs.Refusal.{not-true, not-false}
-use Rattle.event.proofs.Ranges.{place}
+use Rattle.state.specs.With.{withRegister, withZone, withVolt, withFan, withHotInput}
+use Rattle.sense.specs.Events.{tookTemperature, fedZone, tookHot, tookPin, tookReset, voltage-by-parts, fan-by-parts}
+use Rattle.bus.specs.Write.{changed, wrote-by-parts}
+use Rattle.bus.specs.Read.{read-by-parts}
+use Rattle.event.specs.Event.{eventIn, quietStep, refusedStep, tickAnswer, writtenAnswer, seenAnswer, readAnswer, takenStep, steppedChip}
+use Rattle.event.specs.Ticking.{tick-by-parts}
+use Rattle.event.proofs.Ranges.{place, passed, taken-step}
 use Rattle.event.proofs.step.Statement.{statement}
 use Rattle.event.proofs.step.Tie as tie
+
+event-in-requires : tie.Need-event-in-requires
+event-in-requires c κs = search needs
 
 enum-known-event : tie.Need-enum-known-event
 enum-known-event c = search needs
 
-temperature-in-requires : tie.Need-temperature-in-requires
-temperature-in-requires c κs = search needs
-
 sub-at : tie.Need-sub-at
-sub-at c = place 5 _ _ (sym (c .before .temperature-in .ensures) ∙ c .if1 .taken) .from-one
+unfolding eventIn
+sub-at c =
+    let g = c .before in
+    let p = passed (g .before .before .before .event-in .ensures) (g .before .before .if1 .taken) (g .event .given .1) in
+    place 5 _ _ (p .inside) .from-one
 
 cast-source : tie.Need-cast-source
 cast-source c = search needs
@@ -39,16 +43,21 @@ mul-z : tie.Need-mul-z
 mul-z c = search needs
 
 element-set-from-z : tie.Need-element-set-from-z
-element-set-from-z c = let p = place 5 _ _ (sym (c .before .before .before .before .temperature-in .ensures) ∙ c .before .before .before .if1 .taken) .below in omega arith
+unfolding eventIn
+element-set-from-z c =
+    let g = c .before .before .before .before in
+    let p = passed (g .before .before .before .event-in .ensures) (g .before .before .if1 .taken) (g .event .given .1) in
+    let l = place 5 _ _ (p .inside) .below in omega arith
 
 enum-known-event-2 : tie.Need-enum-known-event-2
 enum-known-event-2 c = search needs
 
-voltage-in-requires : tie.Need-voltage-in-requires
-voltage-in-requires c κs = search needs
-
 sub-at-2 : tie.Need-sub-at-2
-sub-at-2 c = place 16 _ _ (sym (c .before .voltage-in .ensures) ∙ c .if3 .taken) .from-one
+unfolding eventIn
+sub-at-2 c =
+    let g = c .before in
+    let p = passed (g .before .before .before .event-in .ensures) (g .before .before .if1 .taken) (g .event2 .given .1) in
+    place 16 _ _ (p .inside) .from-one
 
 cast-gauge : tie.Need-cast-gauge
 cast-gauge c = search needs
@@ -57,7 +66,11 @@ mul-gauge : tie.Need-mul-gauge
 mul-gauge c = search needs
 
 element-set-from-gauge : tie.Need-element-set-from-gauge
-element-set-from-gauge c = place 16 _ _ (sym (c .before .voltage-in .ensures) ∙ c .if3 .taken) .below
+unfolding eventIn
+element-set-from-gauge c =
+    let g = c .before in
+    let p = passed (g .before .before .before .event-in .ensures) (g .before .before .if1 .taken) (g .event2 .given .1) in
+    place 16 _ _ (p .inside) .below
 
 compare-voltage-requires : tie.Need-compare-voltage-requires
 compare-voltage-requires c κs = search needs
@@ -86,11 +99,12 @@ element-set-from-z-3 c = search needs
 enum-known-event-3 : tie.Need-enum-known-event-3
 enum-known-event-3 c = search needs
 
-fan-in-requires : tie.Need-fan-in-requires
-fan-in-requires c κs = search needs
-
 sub-at-3 : tie.Need-sub-at-3
-sub-at-3 c = place 4 _ _ (sym (c .before .fan-in .ensures) ∙ c .if6 .taken) .from-one
+unfolding eventIn
+sub-at-3 c =
+    let g = c .before in
+    let p = passed (g .before .before .before .event-in .ensures) (g .before .before .if1 .taken) (g .event3 .given .1) in
+    place 4 _ _ (p .inside) .from-one
 
 cast-gauge-2 : tie.Need-cast-gauge-2
 cast-gauge-2 c = search needs
@@ -99,7 +113,11 @@ mul-gauge-2 : tie.Need-mul-gauge-2
 mul-gauge-2 c = search needs
 
 element-set-from-gauge-2 : tie.Need-element-set-from-gauge-2
-element-set-from-gauge-2 c = place 4 _ _ (sym (c .before .fan-in .ensures) ∙ c .if6 .taken) .below
+unfolding eventIn
+element-set-from-gauge-2 c =
+    let g = c .before in
+    let p = passed (g .before .before .before .event-in .ensures) (g .before .before .if1 .taken) (g .event3 .given .1) in
+    place 4 _ _ (p .inside) .below
 
 compare-count-requires : tie.Need-compare-count-requires
 compare-count-requires c κs = search needs
@@ -107,20 +125,58 @@ compare-count-requires c κs = search needs
 enum-known-event-4 : tie.Need-enum-known-event-4
 enum-known-event-4 c = search needs
 
-step-hot-requires : tie.Need-step-hot-requires
-step-hot-requires c κs = search needs
+sub-at-4 : tie.Need-sub-at-4
+unfolding eventIn
+sub-at-4 c =
+    let g = c .before in
+    let p = passed (g .before .before .before .event-in .ensures) (g .before .before .if1 .taken) (g .event4 .given .1) in
+    place 4 _ _ (p .inside) .from-one
+
+level-of-requires : tie.Need-level-of-requires
+level-of-requires c κs = search needs
+
+cast-next : tie.Need-cast-next
+cast-next c = search needs
+
+element-write-next : tie.Need-element-write-next
+unfolding eventIn
+element-write-next c =
+    let g = c .before .before in
+    let p = passed (g .before .before .before .event-in .ensures) (g .before .before .if1 .taken) (g .event4 .given .1) in
+    place 4 _ _ (p .inside) .below
 
 enum-known-event-5 : tie.Need-enum-known-event-5
 enum-known-event-5 c = search needs
 
-step-pin-requires : tie.Need-step-pin-requires
-step-pin-requires c κs = search needs
+level-of-requires-2 : tie.Need-level-of-requires-2
+level-of-requires-2 c κs = search needs
 
 enum-told : tie.Need-enum-told
 enum-told c = search needs
 
-step-tick-requires : tie.Need-step-tick-requires
-step-tick-requires c κs = search needs
+mark-missing-requires : tie.Need-mark-missing-requires
+mark-missing-requires c κs = search needs
+
+tick-requires : tie.Need-tick-requires
+tick-requires c κs = search needs
+
+element-copy-out-duty1 : tie.Need-element-copy-out-duty1
+element-copy-out-duty1 c = search needs
+
+element-copy-out-duty2 : tie.Need-element-copy-out-duty2
+element-copy-out-duty2 c = search needs
+
+element-copy-out-output1 : tie.Need-element-copy-out-output1
+element-copy-out-output1 c = search needs
+
+element-copy-out-output2 : tie.Need-element-copy-out-output2
+element-copy-out-output2 c = search needs
+
+alert-active-requires : tie.Need-alert-active-requires
+alert-active-requires c κs = search needs
+
+errors-standing-requires : tie.Need-errors-standing-requires
+errors-standing-requires c κs = search needs
 
 enum-told-2 : tie.Need-enum-told-2
 enum-told-2 c = search needs
@@ -131,117 +187,184 @@ take-reset-requires c κs = search needs
 enum-known-event-6 : tie.Need-enum-known-event-6
 enum-known-event-6 c = search needs
 
-step-write-requires : tie.Need-step-write-requires
-step-write-requires c κs = search needs
+transact-requires : tie.Need-transact-requires
+transact-requires c κs = search needs
+
+answers-requires : tie.Need-answers-requires
+answers-requires c κs = search needs
+
+change-of-requires : tie.Need-change-of-requires
+change-of-requires c κs = search needs
+
+enum-told-3 : tie.Need-enum-told-3
+enum-told-3 c = search needs
+
+enum-known-home : tie.Need-enum-known-home
+enum-known-home c = search needs
+
+cast-next-2 : tie.Need-cast-next-2
+cast-next-2 c = search needs
+
+element-write-next-2 : tie.Need-element-write-next-2
+element-write-next-2 c = search needs
+
+enum-known-zone : tie.Need-enum-known-zone
+enum-known-zone c = search needs
+
+with-reading-requires : tie.Need-with-reading-requires
+with-reading-requires c κs = search needs
 
 enum-known-event-7 : tie.Need-enum-known-event-7
 enum-known-event-7 c = search needs
 
-address-in-requires : tie.Need-address-in-requires
-address-in-requires c κs = search needs
+transact-requires-2 : tie.Need-transact-requires-2
+transact-requires-2 c κs = search needs
 
-read-byte-requires : tie.Need-read-byte-requires
-read-byte-requires c κs = search needs
+answers-requires-2 : tie.Need-answers-requires-2
+answers-requires-2 c κs = search needs
 
-seen-answer-requires : tie.Need-seen-answer-requires
-seen-answer-requires c κs = search needs
+show-register-requires : tie.Need-show-register-requires
+show-register-requires c κs = search needs
 
 returns : tie.Need-returns
-unfolding steppedChip temperatureStep quietStep withZone registerAt
+unfolding takenStep quietStep tookTemperature withZone registerAt
 returns c =
-    let inside = c .before .before .before in
-    let heard = sym (inside .before .temperature-in .ensures) ∙ inside .if1 .taken in
-    rw (inside .before .before .before .event .given .1, heard, heard-temperature, sym (c .before .hears-zone .ensures) ∙ c .if2 .taken)
+    let g = c .before .before .before .before in
+    let p = passed (g .before .before .before .event-in .ensures) (g .before .before .if1 .taken) (g .event .given .1) in
+    taken-step p _ (rw (sym (c .before .hears-zone .ensures) ∙ c .if2 .taken))
 
 returns-2 : tie.Need-returns-2
-unfolding steppedChip temperatureStep quietStep registerAt
+unfolding takenStep quietStep tookTemperature registerAt
 returns-2 c =
-    let inside = c .before .before .before in
-    let heard = sym (inside .before .temperature-in .ensures) ∙ inside .if1 .taken in
-    rw (inside .before .before .before .event .given .1, heard, heard-temperature, sym (c .before .hears-zone .ensures) ∙ c .if2 .left)
+    let g = c .before .before .before .before in
+    let p = passed (g .before .before .before .event-in .ensures) (g .before .before .if1 .taken) (g .event .given .1) in
+    taken-step p _ (rw (sym (c .before .hears-zone .ensures) ∙ c .if2 .left))
 
 returns-3 : tie.Need-returns-3
-unfolding steppedChip temperatureStep refusedStep
-returns-3 c = rw (c .before .before .before .event .given .1, sym (c .before .temperature-in .ensures) ∙ c .if1 .left)
+unfolding eventIn takenStep quietStep fedZone withVolt withZone registerAt
+returns-3 c =
+    let v = c .before .before .before .before in
+    let g = v .before .before .before in
+    let p = passed (g .before .before .before .event-in .ensures) (g .before .before .if1 .taken) (g .event2 .given .1) in
+    taken-step p _ (rw (voltage-by-parts _ _ _ (place 16 _ _ (p .inside) .below), ← v .compare-voltage .ensures, sym (c .before .feeds-three .ensures) ∙ c .if3 .taken, c .before .before .volt-reading .ensures))
 
 returns-4 : tie.Need-returns-4
-unfolding steppedChip voltageStep quietStep fedZone withVolt withZone registerAt
+unfolding eventIn takenStep quietStep fedZone withVolt withZone registerAt
 returns-4 c =
-    let compared = c .before .before .before .before in
-    let inside = compared .before .before in
-    let heard = sym (inside .before .voltage-in .ensures) ∙ inside .if3 .taken in
-    rw (inside .before .before .before .event2 .given .1, heard, heard-voltage _ _ _ (place 16 _ _ heard .below), ← compared .compare-voltage .ensures, sym (c .before .feeds-three .ensures) ∙ c .if4 .taken, c .before .before .volt-reading .ensures)
+    let three = c .before .before in
+    let v = three .before .before .before .before in
+    let g = v .before .before .before in
+    let p = passed (g .before .before .before .event-in .ensures) (g .before .before .if1 .taken) (g .event2 .given .1) in
+    taken-step p _ (rw (voltage-by-parts _ _ _ (place 16 _ _ (p .inside) .below), ← v .compare-voltage .ensures, sym (three .before .feeds-three .ensures) ∙ three .if3 .left, sym (c .before .feeds-four .ensures) ∙ c .if4 .taken, three .before .before .volt-reading .ensures))
 
 returns-5 : tie.Need-returns-5
-unfolding steppedChip voltageStep quietStep fedZone withVolt withZone registerAt
+unfolding eventIn takenStep quietStep fedZone withVolt registerAt
 returns-5 c =
-    let compared = c .before .before .before .before .before .before in
-    let inside = compared .before .before in
-    let heard = sym (inside .before .voltage-in .ensures) ∙ inside .if3 .taken in
-    rw (inside .before .before .before .event2 .given .1, heard, heard-voltage _ _ _ (place 16 _ _ heard .below), ← compared .compare-voltage .ensures, sym (c .before .before .before .feeds-three .ensures) ∙ c .before .before .if4 .left, sym (c .before .feeds-four .ensures) ∙ c .if5 .taken, c .before .before .before .before .volt-reading .ensures)
+    let three = c .before .before in
+    let v = three .before .before .before .before in
+    let g = v .before .before .before in
+    let p = passed (g .before .before .before .event-in .ensures) (g .before .before .if1 .taken) (g .event2 .given .1) in
+    taken-step p _ (rw (voltage-by-parts _ _ _ (place 16 _ _ (p .inside) .below), ← v .compare-voltage .ensures, sym (three .before .feeds-three .ensures) ∙ three .if3 .left, sym (c .before .feeds-four .ensures) ∙ c .if4 .left))
 
 returns-6 : tie.Need-returns-6
-unfolding steppedChip voltageStep quietStep fedZone withVolt registerAt
+unfolding eventIn takenStep quietStep withFan
 returns-6 c =
-    let compared = c .before .before .before .before .before .before in
-    let inside = compared .before .before in
-    let heard = sym (inside .before .voltage-in .ensures) ∙ inside .if3 .taken in
-    rw (inside .before .before .before .event2 .given .1, heard, heard-voltage _ _ _ (place 16 _ _ heard .below), ← compared .compare-voltage .ensures, sym (c .before .before .before .feeds-three .ensures) ∙ c .before .before .if4 .left, sym (c .before .feeds-four .ensures) ∙ c .if5 .left)
+    let g = c .before .before .before in
+    let p = passed (g .before .before .before .event-in .ensures) (g .before .before .if1 .taken) (g .event3 .given .1) in
+    taken-step p _ (rw (fan-by-parts _ _ _ (place 4 _ _ (p .inside) .below), ← c .compare-count .ensures))
 
 returns-7 : tie.Need-returns-7
-unfolding steppedChip voltageStep refusedStep
-returns-7 c = rw (c .before .before .before .event2 .given .1, sym (c .before .voltage-in .ensures) ∙ c .if3 .left)
+unfolding takenStep quietStep tookHot withHotInput
+returns-7 c =
+    let g = c .before .before in
+    let p = passed (g .before .before .before .event-in .ensures) (g .before .before .if1 .taken) (g .event4 .given .1) in
+    taken-step p _ (rw (c .level-of .ensures))
 
 returns-8 : tie.Need-returns-8
-unfolding steppedChip fanStep quietStep withFan
+unfolding takenStep quietStep tookPin
 returns-8 c =
-    let inside = c .before .before in
-    let heard = sym (inside .before .fan-in .ensures) ∙ inside .if6 .taken in
-    rw (inside .before .before .before .event3 .given .1, heard, heard-fan _ _ _ (place 4 _ _ heard .below), ← c .compare-count .ensures)
+    let g = c .before .before .before in
+    let p = passed (g .before .before .before .event-in .ensures) (g .before .before .if1 .taken) (g .event5 .given .1) in
+    taken-step p _ (rw (c .before .level-of2 .ensures))
 
 returns-9 : tie.Need-returns-9
-unfolding steppedChip fanStep refusedStep
-returns-9 c = rw (c .before .before .before .event3 .given .1, sym (c .before .fan-in .ensures) ∙ c .if6 .left)
+unfolding tickAnswer
+returns-9 c =
+    let ticked = c .before .before .before .before .before .before .before .before .before .before .before in
+    let marked = ticked .before .before .before .before .before .before .before in
+    let g = marked .before .before .before .before in
+    let p = passed (g .before .before .before .event-in .ensures) (g .before .before .if1 .taken) (g .enum-told .given .1) in
+    taken-step p _ (rw (c .errors-standing .ensures, c .before .before .before .alert-active .ensures) (tick-by-parts _ (marked .mark-missing .ensures) (ticked .tick .ensures)))
 
 returns-10 : tie.Need-returns-10
-unfolding steppedChip
-returns-10 c = rw (c .before .before .before .event4 .given .1, ← c .before .step-hot .ensures)
+unfolding takenStep quietStep tookReset
+returns-10 c =
+    let g = c .before .before in
+    let p = passed (g .before .before .before .event-in .ensures) (g .before .before .if1 .taken) (g .enum-told2 .given .1) in
+    taken-step p _ (rw (c .take-reset .ensures))
 
 returns-11 : tie.Need-returns-11
-unfolding steppedChip
-returns-11 c = rw (c .before .before .before .event5 .given .1, ← c .before .step-pin .ensures)
+unfolding takenStep writtenAnswer changed
+returns-11 c =
+    let ours = c .before .before .before .before .before .before in
+    let t = ours .before .before in
+    let g = t .before .before .before in
+    let p = passed (g .before .before .before .event-in .ensures) (g .before .before .if1 .taken) (g .event6 .given .1) in
+    taken-step p _ (rw (wrote-by-parts, ← t .transact .ensures, sym (ours .before .answers .ensures) ∙ ours .if5 .taken, ← c .before .before .change-of .ensures, ours .if5 .taken, c .enum-told3 .given .1))
 
 returns-12 : tie.Need-returns-12
-unfolding steppedChip
-returns-12 c = rw (c .before .before .enum-told .given .1, ← c .before .step-tick .ensures)
+unfolding takenStep writtenAnswer changed withRegister
+returns-12 c =
+    let ours = c .before .before .before .before .before .before .before in
+    let t = ours .before .before in
+    let g = t .before .before .before in
+    let p = passed (g .before .before .before .event-in .ensures) (g .before .before .if1 .taken) (g .event6 .given .1) in
+    taken-step p _ (rw (wrote-by-parts, ← t .transact .ensures, sym (ours .before .answers .ensures) ∙ ours .if5 .taken, ← c .before .before .before .change-of .ensures, ours .if5 .taken, c .before .home .given .1))
 
 returns-13 : tie.Need-returns-13
-unfolding steppedChip quietStep
-returns-13 c = rw (c .before .enum-told2 .given .1, ← c .take-reset .ensures)
+unfolding takenStep writtenAnswer changed withZone
+returns-13 c =
+    let ours = c .before .before .before .before .before .before .before .before in
+    let t = ours .before .before in
+    let g = t .before .before .before in
+    let p = passed (g .before .before .before .event-in .ensures) (g .before .before .if1 .taken) (g .event6 .given .1) in
+    taken-step p _ (rw (wrote-by-parts, ← t .transact .ensures, sym (ours .before .answers .ensures) ∙ ours .if5 .taken, ← c .before .before .before .before .change-of .ensures, ours .if5 .taken, c .before .before .zone .given .1, ← c .with-reading .ensures))
 
 returns-14 : tie.Need-returns-14
-unfolding steppedChip
-returns-14 c = rw (c .before .before .before .event6 .given .1, ← c .before .step-write .ensures)
+unfolding takenStep writtenAnswer
+returns-14 c =
+    let t = c .before .before in
+    let g = t .before .before .before in
+    let p = passed (g .before .before .before .event-in .ensures) (g .before .before .if1 .taken) (g .event6 .given .1) in
+    taken-step p _ (rw (wrote-by-parts, ← t .transact .ensures, sym (c .before .answers .ensures) ∙ c .if5 .left, c .if5 .left))
 
 returns-15 : tie.Need-returns-15
-unfolding steppedChip readStep readAnswer transacted
+unfolding takenStep readAnswer seenAnswer
 returns-15 c =
-    let seen = c .before .before .before in
-    let inside = seen .before in
-    let given = inside .before .before .before in
-    rw (given .event7 .given .1, not-true (ltb 0x7F _) (sym (inside .before .address-in .ensures) ∙ inside .if7 .taken), c .seen-answer .ensures, seen .read-byte .ensures, read-chip)
+    let ours = c .before .before .before .before .before .before in
+    let t = ours .before .before in
+    let g = t .before .before .before in
+    let p = passed (g .before .before .before .event-in .ensures) (g .before .before .if1 .taken) (g .event7 .given .1) in
+    taken-step p _ (rw (read-by-parts, ← t .transact2 .ensures, sym (ours .before .answers2 .ensures) ∙ ours .if6 .taken, ← c .show-register .ensures))
 
 returns-16 : tie.Need-returns-16
-unfolding steppedChip readStep refusedStep
+unfolding takenStep readAnswer seenAnswer
 returns-16 c =
-    rw (c .before .before .before .event7 .given .1, not-false (ltb 0x7F _) (sym (c .before .address-in .ensures) ∙ c .if7 .left))
+    let t = c .before .before in
+    let g = t .before .before .before in
+    let p = passed (g .before .before .before .event-in .ensures) (g .before .before .if1 .taken) (g .event7 .given .1) in
+    taken-step p _ (rw (read-by-parts, ← t .transact2 .ensures, sym (c .before .answers2 .ensures) ∙ c .if6 .left))
+
+returns-17 : tie.Need-returns-17
+unfolding steppedChip refusedStep
+returns-17 c = rw (sym (c .before .event-in .ensures) ∙ c .if1 .left)
 
 pub step-spec : {M : Type 1} → statement M
 step-spec =
     tie.close
     (tie.spec
+    event-in-requires
     enum-known-event
-    temperature-in-requires
     sub-at
     cast-source
     element-copy-out-source
@@ -250,7 +373,6 @@ step-spec =
     mul-z
     element-set-from-z
     enum-known-event-2
-    voltage-in-requires
     sub-at-2
     cast-gauge
     mul-gauge
@@ -264,26 +386,43 @@ step-spec =
     feeds-four-requires
     element-set-from-z-3
     enum-known-event-3
-    fan-in-requires
     sub-at-3
     cast-gauge-2
     mul-gauge-2
     element-set-from-gauge-2
     compare-count-requires
     enum-known-event-4
-    step-hot-requires
+    sub-at-4
+    level-of-requires
+    cast-next
+    element-write-next
     enum-known-event-5
-    step-pin-requires
+    level-of-requires-2
     enum-told
-    step-tick-requires
+    mark-missing-requires
+    tick-requires
+    element-copy-out-duty1
+    element-copy-out-duty2
+    element-copy-out-output1
+    element-copy-out-output2
+    alert-active-requires
+    errors-standing-requires
     enum-told-2
     take-reset-requires
     enum-known-event-6
-    step-write-requires
+    transact-requires
+    answers-requires
+    change-of-requires
+    enum-told-3
+    enum-known-home
+    cast-next-2
+    element-write-next-2
+    enum-known-zone
+    with-reading-requires
     enum-known-event-7
-    address-in-requires
-    read-byte-requires
-    seen-answer-requires
+    transact-requires-2
+    answers-requires-2
+    show-register-requires
     returns
     returns-2
     returns-3
@@ -299,4 +438,5 @@ step-spec =
     returns-13
     returns-14
     returns-15
-    returns-16)
+    returns-16
+    returns-17)

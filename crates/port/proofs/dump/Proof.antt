@@ -1,4 +1,4 @@
--- `port::dump` meets its contract: a walk of its MIR, by hand. The shared borrow of the chip is looked into and shut, the copy goes to `bus::dump` with the output, which is given up for good.
+-- `port::dump` meets its contract: a walk of its MIR, by hand. The shared borrow of the chip is looked into and shut, the copy goes to `event::dump` with the output, which is given up for good.
 -- Assumes nothing.
 use mathlib.Core.Path.{_≡_, refl}
 use Prim.Native.Nat.{ℕ}
@@ -44,10 +44,10 @@ use Rattle.state.proofs.Chip as T
 use Rattle.state.proofs.Chip.Laws as T′
 use Rattle.bus.proofs.Dumped as D
 use Rattle.bus.proofs.Dumped.Laws as D′
-use Rattle.bus.proofs.dump as callee
-use Rattle.bus.proofs.dump.Symbol as callee-def
-use Rattle.bus.proofs.dump.Symbol.{name as #callee}
-use Rattle.bus.proofs.dump.Met as callee-thm
+use Rattle.event.proofs.dump as callee
+use Rattle.event.proofs.dump.Symbol as callee-def
+use Rattle.event.proofs.dump.Symbol.{name as #callee}
+use Rattle.event.proofs.dump.Met as callee-thm
 use Rattle.port.proofs.dump.Key.{name as #self}
 use Rattle.port.proofs.dump as self
 use Rattle.port.proofs.dump.Statement as stated
@@ -157,4 +157,4 @@ dump-spec 𝓤 H 𝓜 𝓖 𝓡 =
     entered 𝓤 H (tripleOf 𝓤 H (𝓖 .A) self.signature (self.spec 𝓤 H (𝓖 .A) (𝓜 .mem) (𝓡 .run)))
     (tables 𝓤 H 𝓜 𝓡 code.env .C) (tables 𝓤 H 𝓜 𝓡 code.env .Λ) #self code.function (code.unfolded 𝓤 H 𝓜 𝓡)
     (self-meets 𝓤 H (𝓖 .A) (givenOf 𝓤 H 𝓜 𝓖) (𝓜 .mem) (𝓡 .run) (tablesOf 𝓤 H 𝓜 (tables 𝓤 H 𝓜 𝓡 code.env))
-    (cited 𝓤 H (Callee 𝓤 H (𝓖 .A) (𝓜 .mem) (𝓡 .run)) 𝓜 𝓡 code.env #callee callee-def.routine code.calls-bus·dump (callee-thm.met 𝓤 H 𝓜 𝓖 𝓡)))
+    (cited 𝓤 H (Callee 𝓤 H (𝓖 .A) (𝓜 .mem) (𝓡 .run)) 𝓜 𝓡 code.env #callee callee-def.routine code.calls-event·dump (callee-thm.met 𝓤 H 𝓜 𝓖 𝓡)))

@@ -1,5 +1,5 @@
 use borrow.Author.Needs.{needs}
-use Rattle.sense.specs.Missing.{missed}
+use Rattle.sense.specs.Missing.{missedFile}
 use Rattle.sense.proofs.mark_missing.Statement.{statement}
 use Rattle.sense.proofs.mark_missing.Tie as tie
 
@@ -10,7 +10,7 @@ miss-fans-requires : tie.Need-miss-fans-requires
 miss-fans-requires c κs = search needs
 
 returns : tie.Need-returns
-unfolding missed
+unfolding missedFile
 returns c = rw (c .miss-fans .ensures, c .before .before .miss-volts .ensures)
 
 pub mark-missing-spec : {M : Type 1} → statement M

@@ -1,6 +1,6 @@
 use mathlib.Core.Path.{refl}
 use borrow.Author.Needs.{needs}
-use Rattle.sense.specs.Events.{tookReset, resetFile}
+use Rattle.sense.specs.Events.{resetFile}
 use Rattle.sense.proofs.take_reset.Statement.{statement}
 use Rattle.sense.proofs.take_reset.Tie as tie
 
@@ -16,20 +16,20 @@ cast-sleep c = search needs
 element-copy-out-sleep : tie.Need-element-copy-out-sleep
 element-copy-out-sleep c = search needs
 
-cast-next : tie.Need-cast-next
-cast-next c = search needs
+cast-file : tie.Need-cast-file
+cast-file c = search needs
 
-element-write-next : tie.Need-element-write-next
-element-write-next c = search needs
+element-write-file : tie.Need-element-write-file
+element-write-file c = search needs
 
-cast-next-2 : tie.Need-cast-next-2
-cast-next-2 c = search needs
+cast-file-2 : tie.Need-cast-file-2
+cast-file-2 c = search needs
 
-element-write-next-2 : tie.Need-element-write-next-2
-element-write-next-2 c = search needs
+element-write-file-2 : tie.Need-element-write-file-2
+element-write-file-2 c = search needs
 
 returns : tie.Need-returns
-unfolding tookReset resetFile
+unfolding resetFile
 returns c = refl
 
 pub take-reset-spec : {M : Type 1} → statement M
@@ -40,8 +40,8 @@ take-reset-spec =
     element-copy-out-configuration
     cast-sleep
     element-copy-out-sleep
-    cast-next
-    element-write-next
-    cast-next-2
-    element-write-next-2
+    cast-file
+    element-write-file
+    cast-file-2
+    element-write-file-2
     returns)

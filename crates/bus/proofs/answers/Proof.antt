@@ -1,7 +1,7 @@
 use Rattle.bus.specs.Latch.{isOurs}
 use borrow.Author.Needs.{needs}
-use Rattle.bus.proofs.is_ours.Statement.{statement}
-use Rattle.bus.proofs.is_ours.Tie as tie
+use Rattle.bus.proofs.answers.Statement.{statement}
+use Rattle.bus.proofs.answers.Tie as tie
 
 enum-told : tie.Need-enum-told
 enum-told c = search needs
@@ -17,5 +17,5 @@ returns-2 : tie.Need-returns-2
 unfolding isOurs
 returns-2 c = rw (c .before .latch .given .1)
 
-pub is-ours-spec : {M : Type 1} → statement M
-is-ours-spec = tie.close (tie.spec enum-told enum-known-latch returns returns-2)
+pub answers-spec : {M : Type 1} → statement M
+answers-spec = tie.close (tie.spec enum-told enum-known-latch returns returns-2)

@@ -1,9 +1,9 @@
 use mathlib.Core.Path.{sym, _∙_}
 use Rattle.state.specs.Parts.{registerAt, zoneAt}
-use Rattle.bus.specs.Write.{wroteHalf}
+use Rattle.bus.specs.Write.{changeHalf}
 use borrow.Author.Needs.{needs}
-use Rattle.bus.proofs.write_half.Statement.{statement}
-use Rattle.bus.proofs.write_half.Tie as tie
+use Rattle.bus.proofs.change_half.Statement.{statement}
+use Rattle.bus.proofs.change_half.Tie as tie
 
 cast-zone-writable : tie.Need-cast-zone-writable
 cast-zone-writable c = search needs
@@ -23,19 +23,16 @@ is-set-requires c κs = search needs
 with-half-requires : tie.Need-with-half-requires
 with-half-requires c κs = search needs
 
-with-zone-requires : tie.Need-with-zone-requires
-with-zone-requires c κs = search needs
-
 returns : tie.Need-returns
-unfolding wroteHalf registerAt zoneAt
-returns c = c .with-zone .ensures ∙ rw (c .before .with-half .ensures, c .before .before .is-set .ensures, c .before .before .before .zone-at .ensures, sym (c .before .before .before .before .before .before .zone-writable .ensures) ∙ c .before .before .before .before .before .if1 .taken)
+unfolding changeHalf registerAt zoneAt
+returns c = rw (c .with-half .ensures, c .before .is-set .ensures, c .before .before .zone-at .ensures, sym (c .before .before .before .before .zone-writable .ensures) ∙ c .before .before .before .if1 .taken)
 
 returns-2 : tie.Need-returns-2
-unfolding wroteHalf registerAt
+unfolding changeHalf registerAt
 returns-2 c = rw (sym (c .before .zone-writable .ensures) ∙ c .if1 .left)
 
-pub write-half-spec : {M : Type 1} → statement M
-write-half-spec =
+pub change-half-spec : {M : Type 1} → statement M
+change-half-spec =
     tie.close
     (tie.spec
     cast-zone-writable
@@ -44,6 +41,5 @@ write-half-spec =
     zone-at-requires
     is-set-requires
     with-half-requires
-    with-zone-requires
     returns
     returns-2)
