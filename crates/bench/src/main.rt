@@ -39,13 +39,22 @@ fn smaller(a: usize, b: usize) -> usize
     if a < b { a } else { b }
 }
 
-// Writes what waits.
+// Writes to standard output, and says on standard error where that fails.
+fn write_out(out: &[u8]) -> bool {
+    if io::write_all(STDOUT_FILENO, out) {
+        return true;
+    }
+    os::fail(b"bench: cannot write standard output");
+    false
+}
+
+// Writes what waits, unless an earlier write failed.
 fn flush(desk: Desk, out: &[u8]) -> Desk {
     let n = smaller(desk.waiting, out.len());
     let mut next = desk;
     next.waiting = 0;
-    if n > 0 {
-        next.open = io::write_all(STDOUT_FILENO, &out[..n]);
+    if desk.open {
+        next.open = write_out(&out[..n]);
     }
     next
 }
@@ -109,20 +118,6 @@ fn keep(line: &mut [u8], kept: usize, part: &[u8]) -> usize
     n
 }
 
-// How many bytes stand before the first line feed.
-fn line_width(s: &[u8]) -> usize
-    ensures { λ r. ⌜ r ≤ length (now (s .entry)) ⌝ }
-{
-    let mut i = 0;
-    while i < s.len() {
-        if s[i] == LINE_FEED {
-            return i;
-        }
-        i += 1;
-    }
-    i
-}
-
 // Puts the last part of a line behind what is kept of it, and answers how many bytes are kept then: none of a line that came at once.
 fn join(line: &mut [u8], kept: usize, part: &[u8]) -> usize
     ensures { λ r. ⌜ r ≤ length (now (line .exit)) ⌝ }
@@ -141,30 +136,22 @@ fn whole<'a>(kept: &'a [u8], part: &'a [u8]) -> &'a [u8] {
     kept
 }
 
-// Takes what one read brought. A line that came at once is given to the chip where it stands. What `line::take_line` does with a line is done
-// here in its two parts, so that the chip is not handed on before the line has been read.
+// Takes what one read brought. A line that came at once is given to the chip where it stands.
 fn take_block(start: Bench, block: &[u8], line: &mut [u8], out: &mut [u8]) -> Bench {
     let mut session = start.session;
     let mut desk = start.desk;
     let mut i = 0;
     while i < block.len() {
-        let e = i + line_width(&block[i..]);
+        let e = i + text::line_width(&block[i..]);
         if e < block.len() {
             let n = join(line, desk.kept, &block[i..e]);
             let text = whole(&line[..n], &block[i..e]);
             i = e + 1;
             desk = make_room(desk, out);
             let at = smaller(desk.waiting, out.len());
-            let asked = line::ask(session.begun, out.len() - at, text);
-            if asked.setup {
-                let taken = line::take_setup(text, &mut out[at..]);
-                session = taken.session;
-                desk = after_line(desk, taken.reply, out, at);
-            } else {
-                let taken = line::take_asked(session, asked, &mut out[at..]);
-                session = taken.session;
-                desk = after_line(desk, taken.reply, out, at);
-            }
+            let taken = line::take_line(session, text, &mut out[at..]);
+            session = taken.session;
+            desk = after_line(desk, taken.reply, out, at);
         } else {
             desk.kept = keep(line, desk.kept, &block[i..e]);
             i = e;
@@ -176,9 +163,18 @@ fn take_block(start: Bench, block: &[u8], line: &mut [u8], out: &mut [u8]) -> Be
     }
 }
 
-// How many bytes of the input are to be taken: at its end a line feed, where a last line lacks its own.
-fn end_block(input: &mut [u8], got: usize, kept: usize) -> usize
-    requires { ⌜ got ≤ length (now input) ⌝ }
+// Reads from standard input, and says on standard error where that fails.
+fn read_in(input: &mut [u8]) -> isize {
+    let got = libc::read(STDIN_FILENO, input);
+    if got < 0 {
+        os::fail(b"bench: cannot read standard input");
+    }
+    got
+}
+
+// How many bytes of the input are to be taken, of what a read got: at its end a line feed, where a last line lacks its own, and none where the
+// read failed.
+fn end_block(input: &mut [u8], got: isize, kept: usize) -> usize
     ensures { λ r. ⌜ r ≤ length (now (input .exit)) ⌝ }
 {
     if got == 0 {
@@ -189,7 +185,7 @@ fn end_block(input: &mut [u8], got: usize, kept: usize) -> usize
             }
         }
     }
-    got
+    io::count(got, input)
 }
 
 // One read, and what came of it; before it, what waits is written.
@@ -198,11 +194,10 @@ fn turn(start: Bench, input: &mut [u8], line: &mut [u8], out: &mut [u8]) -> Benc
     bench.desk = flush(start.desk, out);
     let desk = bench.desk;
     if desk.open {
-        let got = libc::read(STDIN_FILENO, input);
-        let n = io::count(got, input);
-        let m = end_block(input, n, desk.kept);
-        bench = take_block(bench, &input[..m], line, out);
-        if n == 0 {
+        let got = read_in(input);
+        let n = end_block(input, got, desk.kept);
+        bench = take_block(bench, &input[..n], line, out);
+        if got <= 0 {
             let mut last = flush(bench.desk, out);
             last.open = false;
             bench.desk = last;
@@ -231,7 +226,7 @@ fn main() {
     let mut line = [0u8; LINE];
     let mut out = [0u8; OUTPUT];
     let session = line::start();
-    let open = io::write_all(STDOUT_FILENO, b"bench\t1\n");
+    let open = write_out(b"bench\t1\n");
     let bench = Bench {
         session: session,
         desk: Desk {

@@ -3,8 +3,8 @@ use mathlib.Core.Path.{_≡_, refl, _∙_}
 use mathlib.Core.Bool.{Bool, true, false}
 use mathlib.Core.List.{List}
 use Prim.Native.Nat.{ℕ}
-use native.Mathlib.Omega.{arith}
 use Rattle.laws.specs.Pick.{pick}
+use Rattle.laws.specs.Never.{never}
 use Rattle.map.specs.declared.Kind.{Kind}
 use Rattle.map.specs.declared.Kind.the-variants.{Plain, Status, Whole, Half, Volt, FanLow, FanHigh, VoltLow, VoltHigh, FanLimitLow, FanLimitHigh}
 use Rattle.map.specs.Names.{TEMPERATURE-SOURCE-SELECT, CONFIGURATION, HALF}
@@ -28,10 +28,6 @@ pub data Allowed (c : Chip) (a byte : ℕ) : Change → Type 0 where
   store : isShut (registerAt c CONFIGURATION) a ≡ false → (kindOf a ≡ Status → ⊥) → Allowed c a byte (stored c a byte)
   clear : isShut (registerAt c CONFIGURATION) a ≡ false → kindOf a ≡ Status → Allowed c a byte (cleared c a byte)
   zone : (i : ℕ) (r : Reading) → Allowed c a byte (ZoneReading i r)
-
--- two constructors that `cc` finds equal
-pub never : _≡_ {A = ℕ} 0 1 → ⊥
-never e = omega arith
 
 module _ (c : Chip) (a byte : ℕ) where
   zone-if : (t : Bool) (i : ℕ) (r : Reading) → Allowed c a byte (pick t (ZoneReading i r) Nothing)

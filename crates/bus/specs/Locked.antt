@@ -6,6 +6,7 @@ use Prim.Native.Nat.{ℕ}
 use lib.Dec.{T}
 use lib.Seq.{getD-set-other}
 use Rattle.laws.specs.Pick.{both}
+use Rattle.laws.specs.Never.{never}
 use Rattle.map.specs.Names.{CONFIGURATION, LOCK}
 use Rattle.map.specs.Map.{lockMarked, homeOf}
 use Rattle.map.specs.Bits.{isSet}
@@ -16,7 +17,7 @@ use Rattle.state.specs.With.{withRegister, withZone}
 use Rattle.bus.specs.Latch.{transacted}
 use Rattle.bus.specs.declared.Change.{Change}
 use Rattle.bus.specs.Write.{stored, cleared, isShut, changeOf, changed, wroteRegister}
-use Rattle.bus.specs.Changes.{Allowed, none, store, clear, zone, never, change-allowed}
+use Rattle.bus.specs.Changes.{Allowed, none, store, clear, zone, change-allowed}
 use Rattle.bus.specs.Transactions.{Transaction, afterAll, all-keep}
 
 both-yes : (s t : Bool) → T s → T t → both s t ≡ false → ⊥
@@ -24,7 +25,8 @@ both-yes true true p q e = never (cc)
 both-yes true false p q e = q
 both-yes false t p q e = p
 
-lock-marked : T (lockMarked CONFIGURATION)
+-- E3h, which has LOCK, is lock-marked itself
+pub lock-marked : T (lockMarked CONFIGURATION)
 lock-marked = rw (configuration .1) tt
 
 module _ (c : Chip) (locked : T (isSet (registerAt c CONFIGURATION) LOCK)) where

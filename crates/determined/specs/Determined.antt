@@ -2,7 +2,17 @@
 -- No promise is copied here: `Learnt` in a function's `Reads` is what the function's `ensures` in src/lib.rt tells a caller, and is made from it.
 -- Each public function of the libraries has its statement under its own name, and one law, `determined`, proves them all.
 use mathlib.Core.Path.{_≡_, sym, _∙_}
+use mathlib.Core.List.{List}
+use Prim.Native.Nat.{ℕ}
 use denote.Ref.{now}
+use Rattle.state.specs.declared.Chip.{Chip}
+use Rattle.state.specs.declared.Setup.{Setup}
+use Rattle.bus.specs.declared.Dumped.{Dumped}
+use Rattle.event.specs.declared.Event.{Event}
+use Rattle.event.specs.declared.Answer.{Answer}
+use Rattle.line.specs.declared.Session.{Session}
+use Rattle.line.specs.declared.Reply.{Reply}
+use Rattle.port.specs.Port.{PowersOn, TakesEvent, TakesLine, Dumps}
 use Rattle.map.proofs.default_of.Reads.{Learnt as default-of-promise}
 use Rattle.map.proofs.writable_of.Reads.{Learnt as writable-of-promise}
 use Rattle.map.proofs.lock_marked.Reads.{Learnt as lock-marked-promise}
@@ -17,6 +27,7 @@ use Rattle.temperature.proofs.from_count.Reads.{Learnt as from-count-promise}
 use Rattle.temperature.proofs.with_half.Reads.{Learnt as with-half-promise}
 use Rattle.temperature.proofs.hotter.Reads.{Learnt as hotter-promise}
 use Rattle.state.proofs.default_setup.Reads.{Learnt as default-setup-promise}
+use Rattle.state.proofs.power_again.Reads.{Learnt as power-again-promise}
 use Rattle.state.proofs.power_on.Reads.{Learnt as power-on-promise}
 use Rattle.state.proofs.zone_at.Reads.{Learnt as zone-at-promise}
 use Rattle.state.proofs.volt_at.Reads.{Learnt as volt-at-promise}
@@ -52,6 +63,7 @@ use Rattle.event.proofs.refusal_of.Reads.{Learnt as refusal-of-promise}
 use Rattle.event.proofs.step.Reads.{Learnt as step-promise}
 use Rattle.event.proofs.dump.Reads.{Learnt as event-dump-promise}
 use Rattle.text.proofs.width.Reads.{Learnt as width-promise}
+use Rattle.text.proofs.line_width.Reads.{Learnt as line-width-promise}
 use Rattle.text.proofs.count_fields.Reads.{Learnt as count-fields-promise}
 use Rattle.text.proofs.field.Reads.{Learnt as field-promise}
 use Rattle.text.proofs.decimal.Reads.{Learnt as decimal-promise}
@@ -66,10 +78,11 @@ use Rattle.parse.proofs.letter_of.Reads.{Learnt as letter-of-promise}
 use Rattle.parse.proofs.event_of.Reads.{Learnt as event-of-promise}
 use Rattle.settings.proofs.settings_of.Reads.{Learnt as settings-of-promise}
 use Rattle.line.proofs.start.Reads.{Learnt as start-promise}
-use Rattle.line.proofs.ask.Reads.{Learnt as ask-promise}
-use Rattle.line.proofs.take_setup.Reads.{Learnt as take-setup-promise}
-use Rattle.line.proofs.take_asked.Reads.{Learnt as take-asked-promise}
 use Rattle.line.proofs.take_line.Reads.{Learnt as take-line-promise}
+use Rattle.lent.proofs.power_again.Reads.{Learnt as lent-power-again-promise}
+use Rattle.lent.proofs.take_event.Reads.{Learnt as lent-take-event-promise}
+use Rattle.lent.proofs.take_line.Reads.{Learnt as lent-take-line-promise}
+use Rattle.lent.proofs.dump.Reads.{Learnt as lent-dump-promise}
 
 -- a promise speaks of the lifetimes κs, the parameters a, the result r, and e, the parameters as the call leaves them. It determines what
 -- is seen of r and e: any two that keep it show the same
@@ -146,6 +159,9 @@ hotter = determined (λ κs a r e p. p)
 
 pub default-setup : Result default-setup-promise
 default-setup = determined (λ κs a r e p. p)
+
+pub power-again : Result power-again-promise
+power-again = determined (λ κs a r e p. p)
 
 pub power-on : Result power-on-promise
 power-on = determined (λ κs a r e p. p)
@@ -264,6 +280,10 @@ event-dump = determined (λ κs a r e p. both p)
 pub width : Result width-promise
 width = determined (λ κs a r e p. p .1)
 
+-- as that of `width`
+pub line-width : Result line-width-promise
+line-width = determined (λ κs a r e p. p .1)
+
 pub count-fields : Result count-fields-promise
 count-fields = determined (λ κs a r e p. p)
 
@@ -313,14 +333,36 @@ settings-of = determined (λ κs a r e p. p)
 pub start : Result start-promise
 start = determined (λ κs a r e p. p)
 
-pub ask : Result ask-promise
-ask = determined (λ κs a r e p. p)
-
-pub take-setup : ResultAnd take-setup-promise (λ κs e. now (e .1 .0))
-take-setup = determined (λ κs a r e p. both p)
-
-pub take-asked : ResultAnd take-asked-promise (λ κs e. now (e .1 .1 .0))
-take-asked = determined (λ κs a r e p. both p)
-
 pub take-line : ResultAnd take-line-promise (λ κs e. now (e .1 .1 .0))
 take-line = determined (λ κs a r e p. both p)
+
+-- ---- port: the chip that stays with the caller
+
+-- its functions are proved by hand and have no `Reads`, so these are about the definitions that their `ensures` cite, and nothing else: of
+-- what is given, a, what is answered, r, and what is left, e
+
+pub port-power-on : ResultAnd {K = Unit {0}} {A = λ _. Chip × Setup} {R = λ _. ℕ} {E = λ _. Chip} (λ _ a r e. PowersOn (a .0) (a .1) r e) (λ _ e. e)
+port-power-on = determined (λ κs a r e p. both p)
+
+pub port-take-event : ResultAnd {K = Unit {0}} {A = λ _. Chip × Event} {R = λ _. Answer} {E = λ _. Chip} (λ _ a r e. TakesEvent (a .0) (a .1) r e) (λ _ e. e)
+port-take-event = determined (λ κs a r e p. both p)
+
+pub port-take-line : ResultAnd {K = Unit {0}} {A = λ _. Session × (List ℕ × List ℕ)} {R = λ _. Reply} {E = λ _. Session × List ℕ} (λ _ a r e. TakesLine (a .0) (a .1 .0) (a .1 .1) r (e .0) (e .1)) (λ _ e. e)
+port-take-line = determined (λ κs a r e p. both (p .0, both (p .1, p .2)))
+
+pub port-dump : ResultAnd {K = Unit {0}} {A = λ _. Chip × List ℕ} {R = λ _. Dumped} {E = λ _. List ℕ} (λ _ a r e. Dumps (a .0) (a .1) r e) (λ _ e. e)
+port-dump = determined (λ κs a r e p. both p)
+
+-- ---- lent: a chip by value, lent to port
+
+pub lent-power-again : Result lent-power-again-promise
+lent-power-again = determined (λ κs a r e p. p)
+
+pub lent-take-event : Result lent-take-event-promise
+lent-take-event = determined (λ κs a r e p. p)
+
+pub lent-take-line : ResultAnd lent-take-line-promise (λ κs e. now (e .1 .1 .0))
+lent-take-line = determined (λ κs a r e p. both p)
+
+pub lent-dump : ResultAnd lent-dump-promise (λ κs e. now (e .1 .0))
+lent-dump = determined (λ κs a r e p. both p)

@@ -1,3 +1,4 @@
 pub mod Determined
+pub mod Said
 pub mod Printed
 pub mod ProvedCases

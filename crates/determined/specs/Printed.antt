@@ -1,37 +1,17 @@
--- Document 01, "Lines and refusals": the twelve lines and what they print, byte for byte, computed on the definitions. Assumes nothing.
-use mathlib.Core.Path.{_≡_, refl}
+-- Document 01, "Lines and refusals": the twelve lines and what they print, byte for byte, computed on the definitions: the lines say the
+-- events of its session, and its answers print as the output. Assumes nothing.
+use mathlib.Core.Path.{_≡_, refl, ap, _∙_}
 use mathlib.Core.List.{List, [], _∷_}
 use Prim.Native.Nat.{ℕ}
-use Rattle.laws.specs.Count.{countTo}
-use Rattle.map.specs.Tables.{defaults, writables, lockMarks, homes}
-use Rattle.map.specs.Map.{writableOf, lockMarked, homeOf}
-use Rattle.map.specs.Bits.{isSet}
-use Rattle.map.specs.Kind.{kindOf}
-use Rattle.map.specs.Slave.{slaveAddress}
-use Rattle.temperature.specs.Temperature.{byteOf, wholeOf, wholeByte, hotterOf}
-use Rattle.state.specs.Parts.{registerAt, zoneAt, hotAt}
-use Rattle.state.specs.With.{withRegister, withZone, withHotInput}
-use Rattle.state.specs.PowerOn.{defaultSetup, powerOn, atRest}
-use Rattle.sense.specs.Errors.{withBit, markedVolt, markedFan, lowLimit, highLimit, fanLimit, fanLimitAt}
-use Rattle.sense.specs.Missing.{voltWatched, fanWatched, missedVolt, missedFan, missedVolts, missedFans, missedFile, missed}
-use Rattle.sense.specs.Standing.{bitsOf, errorsStanding, alertActive}
-use Rattle.sense.specs.Events.{zoneThreeFed, zoneHeard, tookTemperature, tookHot}
-use Rattle.bus.specs.Latch.{latchBy, latchAfter, transactedPin, isOurs, transacted}
-use Rattle.bus.specs.Write.{storedByte, stored, changeKind, isShut, changeHome, changeOf, changed, wroteRegister, wroteByte}
-use Rattle.bus.specs.Read.{shownKind, shownHome, shownRegister, readByte}
-use Rattle.drive.specs.Tables.{joinedZone, zoneOne, zoneTwo, followedZone, unitOf, tableOf, sumTo, isReached, thresholdReached, notAbove, settled, newStep, askedDuty}
-use Rattle.drive.specs.Boosts.{isBoosted, isLatched, boostEnabled}
-use Rattle.drive.specs.Ramps.{delayOf, movedLevel, rampedOn}
-use Rattle.drive.specs.Duties.{boundLargest, tablesAsk, fanDuty, loadedStart, kickedFan}
-use Rattle.drive.specs.Tick.{followed, stepAfter, askAfter, stepsAfter, asksAfter, boostAfter, boostsAfter, anyOn, rampAfter, rampsAfter, levelsOf, dutyAfter, dutyOf, kickAfter, driveAfter, outputsAfter, tickedChip}
-use Rattle.event.specs.Event.{indexIn, readingIn, countIn, levelIn, levelOf, quietStep, refusedStep, eventIn, tickAnswer, writtenAnswer, seenAnswer, readAnswer, takenStep, steppedChip}
+use Rattle.event.specs.Session.{session, answers, session-answers}
 use Rattle.text.specs.Fields.{firstField, otherFields, fieldsOf, fieldAt}
 use Rattle.text.specs.Number.{isDigit, allDigits, valueOf, runOf, plusOf, minusOf, decimalOf, isSpelt}
 use Rattle.text.specs.Hex.{nibbleOf, hexByteOf}
 use Rattle.text.specs.Answers.{digitsText, columnText, hexDigit, hexText, digitOf, ackText, byteText, noByteText, tickText, refusalText}
-use Rattle.parse.specs.Parse.{letterOf, numberAt, indexOf, readingOf, countOf, pairOf, temperatureLine, hotLine, aloneLine, writeBy, writeLine, readBy, readLine, eventOf}
-use Rattle.line.specs.Line.{startSession, refusedLine, begunLine, judgedStep, judgedEvent, judgedParsed, judgedLine, answerText}
-use Rattle.line.specs.Session.{printedBy, printedFrom}
+use Rattle.parse.specs.Parse.{letterOf, numberAt, indexOf, spelledReading, countOf, pairOf, temperatureLine, hotLine, aloneLine, writeBy, writeLine, readBy, readLine, eventBy}
+use Rattle.line.specs.Line.{startSession, answerText}
+use Rattle.line.specs.Session.{printedFrom}
+use Rattle.determined.specs.Said.{says, AllSay, none, more, textAt, textFrom, said-prints}
 
 -- K, T 1 70, T 5 66, K, W 2C BF 01, H 1 1, K, W 2C B5 80, K, R 2C 52, R 2D 52, T 6 10; tabs are 9
 unfoldable pub input : List (List ℕ)
@@ -64,6 +44,29 @@ output =
     ∷ 69 ∷ 9 ∷ 49 ∷ 50 ∷ 9 ∷ 50 ∷ 10
     ∷ []
 
+-- each line says its event
+said : AllSay input session
+unfolding input session letterOf eventBy aloneLine temperatureLine hotLine writeLine writeBy readLine readBy pairOf numberAt indexOf spelledReading countOf firstField otherFields fieldsOf fieldAt isDigit allDigits valueOf runOf plusOf minusOf decimalOf isSpelt nibbleOf hexByteOf
+said =
+    more (says refl refl)
+    (more (says refl refl)
+    (more (says refl refl)
+    (more (says refl refl)
+    (more (says refl refl)
+    (more (says refl refl)
+    (more (says refl refl)
+    (more (says refl refl)
+    (more (says refl refl)
+    (more (says refl refl)
+    (more (says refl refl)
+    (more (says refl refl)
+    none)))))))))))
+
+-- the answers print as the output
+shown : textFrom 1 answers ≡ output
+unfolding answers output textFrom textAt answerText digitsText columnText hexDigit hexText digitOf ackText byteText noByteText tickText refusalText
+shown = refl
+
 pub printed : printedFrom startSession 1 input ≡ output
-unfolding input output firstField otherFields fieldsOf fieldAt isDigit allDigits valueOf runOf plusOf minusOf decimalOf isSpelt nibbleOf hexByteOf digitsText columnText hexDigit hexText digitOf ackText byteText noByteText tickText refusalText letterOf numberAt indexOf readingOf countOf pairOf temperatureLine hotLine aloneLine writeBy writeLine readBy readLine eventOf startSession refusedLine begunLine judgedStep judgedEvent judgedParsed judgedLine answerText printedBy printedFrom steppedChip eventIn takenStep indexIn readingIn countIn levelIn levelOf quietStep refusedStep tickAnswer writtenAnswer seenAnswer readAnswer tookTemperature zoneHeard zoneThreeFed tookHot missed missedFile missedVolts missedFans missedVolt missedFan voltWatched fanWatched lowLimit highLimit fanLimit fanLimitAt markedVolt markedFan withBit errorsStanding bitsOf alertActive wroteByte readByte transacted transactedPin latchAfter latchBy isOurs slaveAddress wroteRegister changed changeOf changeHome changeKind isShut stored storedByte shownRegister shownHome shownKind wholeByte wholeOf byteOf registerAt zoneAt hotAt withRegister withZone withHotInput homeOf homes kindOf writableOf writables lockMarked lockMarks isSet tickedChip driveAfter outputsAfter kickAfter dutyOf dutyAfter levelsOf rampsAfter rampAfter anyOn boostsAfter boostAfter asksAfter stepsAfter askAfter stepAfter followed kickedFan loadedStart fanDuty tablesAsk boundLargest rampedOn movedLevel delayOf isBoosted isLatched boostEnabled askedDuty newStep settled notAbove thresholdReached isReached sumTo tableOf unitOf followedZone zoneOne zoneTwo joinedZone hotterOf countTo powerOn atRest defaultSetup defaults
-printed = refl
+unfolding startSession
+printed = said-prints startSession 1 said ∙ ap (textFrom 1) session-answers ∙ shown

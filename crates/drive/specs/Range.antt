@@ -14,7 +14,7 @@ use Rattle.state.specs.declared.Ramp.{Ramp}
 use Rattle.state.specs.declared.Override.{Override}
 use Rattle.state.specs.Parts.{noRamp}
 use Rattle.state.specs.PowerOn.{atRest}
-use Rattle.state.specs.Valid.{Valid, OverrideRange, none, some}
+use Rattle.state.specs.Valid.{Valid, OverrideRange, none, some, valid-duties, valid-overrides, valid-start-duties}
 use Rattle.drive.specs.declared.Kick.{Kick}
 use Rattle.drive.specs.Ramps.{movedLevel, rampedOn}
 use Rattle.drive.specs.Duties.{boundLargest, tablesAsk, fanDuty, loadedStart, kickedFan}
@@ -88,7 +88,7 @@ module _ (c : Chip) where
   -- what the tables ask is at most 256
   pub asks-le : Valid (c .setup) → (i : ℕ) → getD (asksAfter c) i 0 ≤ 256
   unfolding asksAfter askAfter stepAfter
-  asks-le v = firsts-each (λ s. s ≤ 256) (λ i. askAfter c i .duty) 4 (λ i. asked-le _ (v .duties) _ _ _) (omega arith)
+  asks-le v = firsts-each (λ s. s ≤ 256) (λ i. askAfter c i .duty) 4 (λ i. asked-le _ (valid-duties _ v) _ _ _) (omega arith)
 
   module _ (l : (i : ℕ) → getD (c .drive .ramps) i noRamp .level ≤ 256) where
     -- the levels after a tick are at most 256 where they were
@@ -100,7 +100,7 @@ module _ (c : Chip) where
     pub duty-of-le : Valid (c .setup) → (fan : ℕ) → dutyOf c fan ≤ 256
     unfolding dutyOf dutyAfter levelsOf
     duty-of-le v fan =
-        duty-le _ (asksAfter c) _ _ (v .overrides fan) (asks-le v)
+        duty-le _ (asksAfter c) _ _ (valid-overrides _ v fan) (asks-le v)
         (firsts-each (λ s. s ≤ 256) (λ i. getD (rampsAfter c) i noRamp .level) 4 levels-le (omega arith))
 
 -- every tick keeps steps, levels and duties in range
@@ -116,4 +116,4 @@ tick-in-range c v r = record {
 pub outputs-le : (c : Chip) → Valid (c .setup) → InRange (c .drive) → (fan : ℕ) → getD (outputsAfter c) fan 0 ≤ 256
 unfolding outputsAfter kickAfter
 outputs-le c v r =
-    firsts-each (λ d. d ≤ 256) (λ i. kickAfter c i (dutyOf c i) .output) 2 (λ i. kick-le _ _ _ _ _ (duty-of-le c (r .levels) v i) (v .start-duties i)) (omega arith)
+    firsts-each (λ d. d ≤ 256) (λ i. kickAfter c i (dutyOf c i) .output) 2 (λ i. kick-le _ _ _ _ _ (duty-of-le c (r .levels) v i) (valid-start-duties _ v i)) (omega arith)

@@ -14,7 +14,7 @@ use Rattle.state.specs.declared.Chip.{Chip}
 use Rattle.state.specs.declared.Ramp.{Ramp}
 use Rattle.state.specs.declared.Setup.{Setup}
 use Rattle.state.specs.Parts.{registerAt, zoneAt, hotAt}
-use Rattle.state.specs.Valid.{Valid}
+use Rattle.state.specs.Valid.{Valid, valid-duties}
 use Rattle.state.specs.Order.{Cooler}
 use Rattle.drive.specs.Tables.{tableOf}
 use Rattle.drive.specs.Tick.{followed, stepAfter, askAfter, stepsAfter, asksAfter, boostAfter, boostsAfter, anyOn, rampAfter, rampsAfter, levelsOf, dutyAfter, dutyOf, driveAfter, tickedChip}
@@ -75,9 +75,9 @@ module _ {c d : Chip} (k : Cooler c d) where
   boost-rises zone = rw (← register-same TEMPERATURE-SOURCE-SELECT, ← k .setup) (boost-mono _ _ _ _ _ (k .zones zone) (k .drive .boosts zone))
 
   -- the tables' steps are no higher
-  pub steps-rise : (i : ℕ) → getD (stepsAfter c) i 0 ≤ getD (stepsAfter d) i 0
+  pub table-steps-rise : (i : ℕ) → getD (stepsAfter c) i 0 ≤ getD (stepsAfter d) i 0
   unfolding stepsAfter askAfter
-  steps-rise = firsts-related _≤_ (stepAfter c) (stepAfter d) 4 step-rises (omega arith)
+  table-steps-rise = firsts-related _≤_ (stepAfter c) (stepAfter d) 4 step-rises (omega arith)
 
   -- the boosts that are on are on in the hotter chip
   pub boosts-rise : (i : ℕ) → T (getD (boostsAfter c) i false) → T (getD (boostsAfter d) i false)
@@ -93,7 +93,7 @@ module _ {c d : Chip} (v : Valid (c .setup)) (k : Cooler c d) where
   -- what a table asks is no higher
   pub ask-rises : (table : ℕ) → askAfter c table .duty ≤ askAfter d table .duty
   unfolding askAfter stepAfter followed registerAt
-  ask-rises table = rw (← table-same k table, ← k .setup) (asked-mono _ (v .duties) _ (k .drive .steps table) (followed-rises k table))
+  ask-rises table = rw (← table-same k table, ← k .setup) (asked-mono _ (valid-duties _ v) _ (k .drive .steps table) (followed-rises k table))
 
   -- what the four tables ask is no higher
   pub asks-rise : (i : ℕ) → getD (asksAfter c) i 0 ≤ getD (asksAfter d) i 0
@@ -120,7 +120,7 @@ module _ {c d : Chip} (v : Valid (c .setup)) (k : Cooler c d) where
     hot = k .hot;
     pin = k .pin;
     drive = record {
-      steps = steps-rise k;
+      steps = table-steps-rise k;
       boosts = boosts-rise k;
       ramps = ramps-same k;
       duties = firsts-related _≤_ (dutyOf c) (dutyOf d) 2 duty-rises (omega arith);

@@ -10,13 +10,13 @@ use Rattle.state.specs.declared.Setup.{Setup}
 use Rattle.state.specs.PowerOn.{powerOn, atRest}
 use Rattle.state.specs.Valid.{Valid}
 use Rattle.sense.specs.Missing.{missed}
-use Rattle.bus.specs.Changes.{never}
+use Rattle.laws.specs.Never.{never}
 use Rattle.drive.specs.Tick.{stepsAfter, boostsAfter, rampsAfter, driveAfter, tickedChip}
 use Rattle.drive.specs.Range.{InRange, tick-in-range}
 use Rattle.event.specs.declared.Event.{Event}
 use Rattle.event.specs.declared.Event.the-variants.{Temperature, Voltage, Fan, Hot, Pin, Tick, Reset, Write, Read}
 use Rattle.event.specs.Event.{steppedChip}
-use Rattle.event.specs.Alike.{Alike, missed-alike, event-alike}
+use Rattle.event.specs.SameShape.{SameShape, missed-shape, event-shape}
 use Rattle.event.specs.Ticking.{tick-chip, tick-leaves}
 
 -- ---- a tick, or another event
@@ -38,11 +38,11 @@ by-tick P t f (Read address a) = f _ (λ q. never (cc))
 module _ (c : Chip) where
   -- only a tick changes the drive
   pub drive-kept : (e : Event) → (e ≡ Tick → ⊥) → steppedChip c e .chip .drive ≡ c .drive
-  drive-kept e h = event-alike c e h .drive
+  drive-kept e h = event-shape c e h .drive
 
   -- no event changes the setup
   pub setup-kept : (e : Event) → steppedChip c e .chip .setup ≡ c .setup
-  setup-kept = by-tick _ (tick-leaves c .setup ∙ missed-alike c .setup) (λ e h. event-alike c e h .setup)
+  setup-kept = by-tick _ (tick-leaves c .setup ∙ missed-shape c .setup) (λ e h. event-shape c e h .setup)
 
 -- ---- lengths
 
@@ -76,8 +76,8 @@ power-sized s = record {
 }
 
 module _ {c : Chip} (s : Sized c) where
-  alike-sized : {d : Chip} → Alike c d → Sized d
-  alike-sized p = record {
+  shape-sized : {d : Chip} → SameShape c d → Sized d
+  shape-sized p = record {
     registers = p .registers ∙ s .registers;
     zones = p .zones ∙ s .zones;
     volts = p .volts ∙ s .volts;
@@ -108,7 +108,7 @@ module _ {c : Chip} (s : Sized c) where
 -- every event keeps the lists' lengths
 pub step-sized : {c : Chip} → Sized c → (e : Event) → Sized (steppedChip c e .chip)
 step-sized {c} s =
-    by-tick (λ e. Sized (steppedChip c e .chip)) (rw (tick-chip c) (ticked-sized (alike-sized s (missed-alike c)))) (λ e h. alike-sized s (event-alike c e h))
+    by-tick (λ e. Sized (steppedChip c e .chip)) (rw (tick-chip c) (ticked-sized (shape-sized s (missed-shape c)))) (λ e h. shape-sized s (event-shape c e h))
 
 -- ---- ranges
 
@@ -117,4 +117,4 @@ pub step-in-range : (c : Chip) (e : Event) → Valid (c .setup) → InRange (c .
 step-in-range c e v r = by-tick (λ e. InRange (steppedChip c e .chip .drive)) ticked (λ e h. rw (drive-kept c e h) r) e
   where
     ticked : InRange (steppedChip c Tick .chip .drive)
-    ticked = rw (tick-chip c) (tick-in-range (missed c) (rw (missed-alike c .setup) v) (rw (missed-alike c .drive) r))
+    ticked = rw (tick-chip c) (tick-in-range (missed c) (rw (missed-shape c .setup) v) (rw (missed-shape c .drive) r))

@@ -2,7 +2,7 @@ pub mod Event
 pub mod Run
 pub mod Session
 pub mod Refusal
-pub mod Alike
+pub mod SameShape
 pub mod Ticking
 pub mod Lasting
 pub mod Reached

@@ -5,7 +5,7 @@ use Prim.Native.Nat.{ℕ}
 use Rattle.laws.specs.Pointwise.{pick-each}
 use Rattle.state.specs.declared.Chip.{Chip}
 use Rattle.bus.specs.Read.{Shown, NoByte, Byte, readByte}
-use Rattle.bus.specs.Changes.{never}
+use Rattle.laws.specs.Never.{never}
 use Rattle.event.specs.declared.Event.{Event}
 use Rattle.event.specs.declared.Event.the-variants.{Temperature, Voltage, Fan, Hot, Pin, Tick, Reset, Write, Read}
 use Rattle.event.specs.declared.Answer.the-variants.{Refused}

@@ -19,7 +19,7 @@ use Rattle.event.specs.declared.Tick.{Tick as Shown}
 use Rattle.event.specs.declared.Answer.the-variants.{Ticked}
 use Rattle.event.specs.declared.Stepped.{Stepped}
 use Rattle.event.specs.Event.{eventIn, tickAnswer, takenStep, steppedChip}
-use Rattle.event.specs.Alike.{missed-alike}
+use Rattle.event.specs.SameShape.{missed-shape}
 
 -- what a tick shows is in range
 pub record ShownRange (t : Shown) : Type 0 where
@@ -82,10 +82,10 @@ module _ (c : Chip) where
   }
     where
       valid : Valid (missed c .setup)
-      valid = rw (missed-alike c .setup) v
+      valid = rw (missed-shape c .setup) v
 
       within : InRange (missed c .drive)
-      within = rw (missed-alike c .drive) r
+      within = rw (missed-shape c .drive) r
 
       duty : (fan : ℕ) → dutyOf (missed c) fan ≤ 256
       duty = duty-of-le (missed c) (within .levels) valid

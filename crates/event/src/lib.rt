@@ -63,7 +63,7 @@ pub struct Stepped {
 }
 
 // The refusal of an event number out of range.
-const OUT_OF_RANGE: u8 = 2;
+const EVENT_OUT_OF_RANGE: u8 = 2;
 
 // The largest slave address, of seven bits.
 const ADDRESS_TOP: u8 = 0x7F;
@@ -181,7 +181,11 @@ fn event_in(event: Event) -> bool
 pub fn refusal_of(event: Event) -> u8
     ensures { λ r. ⌜ r ≡ refusalOf event ⌝ }
 {
-    if event_in(event) { 0 } else { OUT_OF_RANGE }
+    if event_in(event) {
+        0
+    } else {
+        EVENT_OUT_OF_RANGE
+    }
 }
 
 // ---- the events
@@ -313,7 +317,7 @@ pub fn step(chip: Chip, event: Event) -> Stepped
             }
         }
     } else {
-        answer = Answer::Refused(OUT_OF_RANGE);
+        answer = Answer::Refused(EVENT_OUT_OF_RANGE);
     }
     Stepped {
         chip: next,

@@ -1,9 +1,8 @@
 -- Two tests at once. Assumes nothing.
 use mathlib.Core.Path.{_≡_, refl}
 use mathlib.Core.Bool.{Bool, true, false}
-use Prim.Native.Nat.{ℕ}
-use native.Mathlib.Omega.{arith}
 use Rattle.laws.specs.Pick.{both}
+use Rattle.laws.specs.Never.{never}
 
 pub both-false : (b : Bool) → both b false ≡ false
 both-false true = refl
@@ -15,7 +14,7 @@ both-left false b e = e
 
 pub both-right : (a b : Bool) → both a b ≡ true → b ≡ true
 both-right true b e = e
-both-right false b e = absurd (clash e)
-  where
-    clash : false ≡ true → ⊥
-    clash q = let z : _≡_ {A = ℕ} 0 1 = cc in omega arith
+both-right false b e = absurd (never (cc))
+
+pub both-true : {a b : Bool} → a ≡ true → b ≡ true → both a b ≡ true
+both-true p q = rw (p, q)

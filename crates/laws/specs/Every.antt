@@ -48,3 +48,9 @@ pub every-same : (p q : ℕ → Bool) (n : ℕ) → ((k : ℕ) → k < n → p k
 unfolding every
 every-same p q zero f = refl
 every-same p q (suc n) f = rw (every-same p q n (λ k l. f k (omega arith)), f n (omega arith))
+
+-- a test that passes below n
+pub every-of : (p : ℕ → Bool) (n : ℕ) → ((k : ℕ) → k < n → p k ≡ true) → every n p ≡ true
+unfolding every
+every-of p zero f = refl
+every-of p (suc n) f = rw (every-of p n (λ k l. f k (omega arith)), f n (omega arith))

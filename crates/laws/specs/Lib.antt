@@ -1,3 +1,4 @@
+pub mod Never
 pub mod Pick
 pub mod Both
 pub mod Table
@@ -9,6 +10,8 @@ pub mod Halves
 pub mod Pointwise
 pub mod Rises
 pub mod Every
+pub mod AllPass
+pub mod Tried
 pub mod Store
 pub mod Masks
 pub mod Shift

@@ -20,6 +20,11 @@ firsts-at f zero k d l = absurd (not-suc-le-zero l)
 firsts-at f (suc n) zero d l = refl
 firsts-at f (suc n) (suc k) d l = firsts-at (λ k. f (suc k)) n k d (le-of-suc-le-suc l)
 
+-- a choice of the same either way
+pub pick-same : {A : Type 0} (t : Bool) (a : A) → pick t a a ≡ a
+pick-same true a = refl
+pick-same false a = refl
+
 -- ---- a relation
 
 module _ {A : Type 0} (R : A → A → Type 0) where

@@ -1,4 +1,5 @@
 pub mod Line
-pub mod Asked
 pub mod Session
 pub mod Clamped
+pub mod Comes
+pub mod Kept

@@ -1,14 +1,13 @@
 // A line of text given to the chip: taken, or refused by its number (document 01, "Lines and refusals").
 ghost use mathlib.Core.Path.{_≡_};
-ghost use Rattle.line.specs.Line.{startSession, answerText, takenLine, bufferAfter};
-ghost use Rattle.line.specs.Asked.{askedNothing, askedParsed, askedSettings, askedLine, isBegun, takenSetup, takenAsked, bufferAsked};
+ghost use Rattle.line.specs.Line.{startSession, askedEvent, askedSettings, askedOther, askedLine, refusedLine, setupLine, eventLine, answerText, silentLine, takenBy, bufferBy, takenLine, bufferAfter};
 ghost use Rattle.settings.specs.Settings.{settingsOf};
 ghost use Rattle.text.specs.Answers.{wroteLength, wroteInto};
 use event::Answer;
 use event::Event;
 use parse::Parsed;
+use settings::SPELLING;
 use state::Chip;
-use state::Count;
 
 // A chip, and whether any line has been taken.
 pub struct Session {
@@ -28,18 +27,15 @@ pub struct Taken {
     pub reply: Reply,
 }
 
-// What a line asks for: 0 or its refusal, whether it is a setup that is taken, and its event. A line without an event asks for one that every
-// chip refuses. The setup itself is not in here, it is large, and most lines have none.
-pub struct Asked {
-    pub refusal: u8,
-    pub setup: bool,
-    pub event: Event,
+// What a line asks for. The setup itself is not in here: it is large, and most lines have none.
+pub enum Asked {
+    Setup,
+    Refused(u8),
+    Event(Event),
 }
 
 // The refusals that are decided here.
 const NO_ROOM: u8 = 5;
-
-const SPELLING: u8 = 4;
 
 const BEGUN: u8 = 3;
 
@@ -52,8 +48,10 @@ const ROOM: usize = 64;
 pub fn start() -> Session
     ensures { λ r. ⌜ r ≡ startSession ⌝ }
 {
+    let on = state::power_on(state::default_setup());
+    let chip = on.chip;
     Session {
-        chip: state::power_on(state::default_setup()),
+        chip: chip,
         begun: false,
     }
 }
@@ -80,31 +78,14 @@ fn write_answer(answer: Answer, out: &mut [u8]) -> usize
     }
 }
 
-// No event: no chip has a fan 0.
-fn ask_nothing(refusal: u8, setup: bool) -> Asked
-    ensures { λ r. ⌜ r ≡ askedNothing refusal setup ⌝ }
+fn ask_event(event: Event) -> Asked
+    ensures { λ r. ⌜ r ≡ askedEvent event ⌝ }
 {
-    Asked {
-        refusal: refusal,
-        setup: setup,
-        event: Event::Fan {
-            fan: 0,
-            count: Count::Missing,
-        },
+    let refusal = event::refusal_of(event);
+    if refusal == 0 {
+        return Asked::Event(event);
     }
-}
-
-fn ask_parsed(parsed: Parsed) -> Asked
-    ensures { λ r. ⌜ r ≡ askedParsed parsed ⌝ }
-{
-    match parsed {
-        Parsed::Wrong => ask_nothing(SPELLING, false),
-        Parsed::Fine(event) => Asked {
-            refusal: event::refusal_of(event),
-            setup: false,
-            event: event,
-        },
-    }
+    Asked::Refused(refusal)
 }
 
 // An S line: its spelling, then whether it comes first, then its numbers.
@@ -114,47 +95,63 @@ fn ask_setup(begun: bool, line: &[u8]) -> Asked
     let settings = settings::settings_of(line);
     let refusal = settings.refusal;
     if refusal == SPELLING {
-        return ask_nothing(SPELLING, false);
+        return Asked::Refused(SPELLING);
     }
     if begun {
-        return ask_nothing(BEGUN, false);
+        return Asked::Refused(BEGUN);
     }
-    ask_nothing(refusal, refusal == 0)
+    if refusal == 0 {
+        return Asked::Setup;
+    }
+    Asked::Refused(refusal)
 }
 
-// What a line asks for, after others have been taken or not, with this much room for its answer. The refusals in their order: 5, 4, 3, 1, and
-// an event's 2.
-pub fn ask(begun: bool, room: usize, line: &[u8]) -> Asked
+// A line that says no event: a setup, or wrong spelling.
+fn ask_other(begun: bool, line: &[u8]) -> Asked
+    ensures { λ r. ⌜ r ≡ askedOther begun (now (line .entry)) ⌝ }
+{
+    if parse::letter_of(line) == b'S' {
+        return ask_setup(begun, line);
+    }
+    Asked::Refused(SPELLING)
+}
+
+// What a line asks for, after others have been taken or not, with this much room for its answer.
+fn ask(begun: bool, room: usize, line: &[u8]) -> Asked
     ensures { λ r. ⌜ r ≡ askedLine begun room (now (line .entry)) ⌝ }
 {
     if room < ROOM {
-        return ask_nothing(NO_ROOM, false);
+        return Asked::Refused(NO_ROOM);
     }
     if LONGEST < line.len() {
-        return ask_nothing(SPELLING, false);
+        return Asked::Refused(SPELLING);
     }
-    let letter = parse::letter_of(line);
-    if letter == b'S' {
-        return ask_setup(begun, line);
+    match parse::event_of(line) {
+        Parsed::Wrong => ask_other(begun, line),
+        Parsed::Fine(event) => ask_event(event),
     }
-    ask_parsed(parse::event_of(letter, line))
 }
 
-// Whether any line has been taken, after one with this refusal.
-fn is_begun(begun: bool, refusal: u8) -> bool
-    ensures { λ r. ⌜ r ≡ isBegun begun refusal ⌝ }
+fn refuse(session: Session, refusal: u8) -> Taken
+    ensures { λ r. ⌜ r ≡ silentLine (refusedLine session refusal) ⌝ }
 {
-    if refusal == 0 { true } else { begun }
+    Taken {
+        session: session,
+        reply: Reply {
+            refusal: refusal,
+            length: 0,
+        },
+    }
 }
 
-// What comes of a line that asks for a setup: the chip is powered on with it.
-pub fn take_setup(line: &[u8], out: &mut [u8]) -> Taken
-    ensures { λ r. ⌜ (r ≡ takenSetup (now (line .entry)) (now (out .entry))) × (now (out .exit) ≡ wroteInto (answerText Answer.Nothing) (now (out .entry))) ⌝ }
+// An S line that is taken: the chip is powered on with its setup.
+fn take_setup(line: &[u8]) -> Taken
+    ensures { λ r. ⌜ r ≡ silentLine (setupLine (now (line .entry))) ⌝ }
 {
     let settings = settings::settings_of(line);
     let setup = settings.setup;
-    let chip = state::power_on(setup);
-    let length = write_answer(Answer::Nothing, out);
+    let on = state::power_on(setup);
+    let chip = on.chip;
     Taken {
         session: Session {
             chip: chip,
@@ -162,18 +159,14 @@ pub fn take_setup(line: &[u8], out: &mut [u8]) -> Taken
         },
         reply: Reply {
             refusal: 0,
-            length: length,
+            length: 0,
         },
     }
 }
 
-// What comes of a line that asks for anything else.
-pub fn take_asked(session: Session, asked: Asked, out: &mut [u8]) -> Taken
-    ensures { λ r. ⌜ (r ≡ takenAsked session asked (now (out .entry))) × (now (out .exit) ≡ bufferAsked session asked (now (out .entry))) ⌝ }
+fn take_event(chip: Chip, event: Event, out: &mut [u8]) -> Taken
+    ensures { λ r. ⌜ (r ≡ takenBy (eventLine chip event) (now (out .entry))) × (now (out .exit) ≡ bufferBy (eventLine chip event) (now (out .entry))) ⌝ }
 {
-    let begun = is_begun(session.begun, asked.refusal);
-    let chip = session.chip;
-    let event = asked.event;
     let stepped = event::step(chip, event);
     let answer = stepped.answer;
     let length = write_answer(answer, out);
@@ -181,10 +174,10 @@ pub fn take_asked(session: Session, asked: Asked, out: &mut [u8]) -> Taken
     Taken {
         session: Session {
             chip: next,
-            begun: begun,
+            begun: true,
         },
         reply: Reply {
-            refusal: asked.refusal,
+            refusal: 0,
             length: length,
         },
     }
@@ -196,8 +189,12 @@ pub fn take_line(session: Session, line: &[u8], out: &mut [u8]) -> Taken
     ensures { λ r. ⌜ (r ≡ takenLine session (now (line .entry)) (now (out .entry))) × (now (out .exit) ≡ bufferAfter session (now (line .entry)) (now (out .entry))) ⌝ }
 {
     let asked = ask(session.begun, out.len(), line);
-    if asked.setup {
-        return take_setup(line, out);
+    match asked {
+        Asked::Setup => take_setup(line),
+        Asked::Refused(refusal) => refuse(session, refusal),
+        Asked::Event(event) => {
+            let chip = session.chip;
+            take_event(chip, event, out)
+        }
     }
-    take_asked(session, asked, out)
 }

@@ -1,115 +1,104 @@
--- The kind of the register at an address, by a ladder of rising bounds, and one law for each rung. Zones count from 0 in the order
+-- The kind of the register at an address, by a ladder of rising bounds, and one law for all its rungs. Zones count from 0 in the order
 -- 1a, 1b, 2a, 2b, 3, 4; channels and fans count from 0. Assumes nothing.
-use mathlib.Core.Path.{_≡_}
-use Prim.Native.Nat.{ℕ, _+_, _-_, _*_, _/_, _%_, _≤_, _<_}
+use mathlib.Core.Path.{_≡_, refl}
+use mathlib.Core.Bool.{Bool, true}
+use mathlib.Core.List.{List, [], _∷_}
+use Prim.Native.Nat.{ℕ, zero, suc, _+_, _-_, _*_, _/_, _%_, _≤_, _<_}
 use native.Mathlib.Omega.{arith}
-use borrow.Author.Tests.{lt-ltb, le-ltb}
-use lib.Dec.{eqb, ltb}
-use Rattle.laws.specs.Pick.{pick}
+use borrow.Author.Tests.{leb-true, lt-ltb, le-ltb}
+use lib.Dec.{eqb, leb, ltb}
+use Rattle.laws.specs.Pick.{pick, both}
+use Rattle.laws.specs.Both.{both-left, both-right}
 use Rattle.map.specs.declared.Kind.{Kind}
 use Rattle.map.specs.declared.Kind.the-variants.{Plain, Status, Whole, Half, Volt, FanLow, FanHigh, VoltLow, VoltHigh, FanLimitLow, FanLimitHigh}
+
+-- a rung: the addresses below its bound, from the bound of the rung before it on, and the kind of each
+pub data Rung : Type 0 where
+  below : ℕ → (ℕ → Kind) → Rung
+
+-- on a rung of plain registers
+abbrev pub plain : ℕ → Kind
+plain a = Plain
 
 -- of two registers side by side the first has the even address
 abbrev pub evenOdd : ℕ → Kind → Kind → Kind
 evenOdd a even odd = pick (eqb (a % 2) 0) even odd
 
+-- the rungs in order; above the last all registers are plain
+abbrev pub ladder : List Rung
+ladder =
+    below 0x06 plain
+    -- 06h and 07h: zones 1b and 2b
+    ∷ below 0x08 (λ a. Whole ((a - 0x06) * 2 + 1))
+    ∷ below 0x10 plain
+    -- 10h to 17h: zones 1a, 1b, 2a and 2b, the half bit at the even address
+    ∷ below 0x18 (λ a. evenOdd a (Half ((a - 0x10) / 2)) (Whole ((a - 0x10) / 2)))
+    ∷ below 0x20 plain
+    -- 20h to 23h: zones 3 and 4
+    ∷ below 0x24 (λ a. evenOdd a (Half ((a - 0x18) / 2)) (Whole ((a - 0x18) / 2)))
+    ∷ below 0x40 plain
+    -- 40h to 4Fh: error status
+    ∷ below 0x50 (λ a. Status)
+    -- 50h and 51h: zones 1a and 2a; 52h and 53h: zones 3 and 4
+    ∷ below 0x52 (λ a. Whole ((a - 0x50) * 2))
+    ∷ below 0x54 (λ a. Whole (a - 0x4E))
+    ∷ below 0x56 plain
+    -- 56h to 65h: voltages 1 to 16
+    ∷ below 0x66 (λ a. Volt (a - 0x56))
+    ∷ below 0x6E plain
+    -- 6Eh to 75h: fans 1 to 4, the low byte at the even address
+    ∷ below 0x76 (λ a. evenOdd a (FanLow ((a - 0x6E) / 2)) (FanHigh ((a - 0x6E) / 2)))
+    ∷ below 0x90 plain
+    -- 90h to AFh: the limits of voltages 1 to 16
+    ∷ below 0xB0 (λ a. evenOdd a (VoltLow ((a - 0x90) / 2)) (VoltHigh ((a - 0x90) / 2)))
+    ∷ below 0xB4 plain
+    -- B4h to BBh: the limits of fans 1 to 4
+    ∷ below 0xBC (λ a. evenOdd a (FanLimitLow ((a - 0xB4) / 2)) (FanLimitHigh ((a - 0xB4) / 2)))
+    ∷ []
+
+-- the kind of an address on the first rung whose bound is above it
+abbrev pub climbed : List Rung → ℕ → Kind
+climbed [] a = Plain
+climbed (below bound kind ∷ rungs) a = pick (ltb a bound) (kind a) (climbed rungs a)
+
 unfoldable pub kindOf : ℕ → Kind
-kindOf a =
-    pick (ltb a 0x06) Plain
-    (pick (ltb a 0x08) (Whole ((a - 0x06) * 2 + 1))
-    (pick (ltb a 0x10) Plain
-    (pick (ltb a 0x18) (evenOdd a (Half ((a - 0x10) / 2)) (Whole ((a - 0x10) / 2)))
-    (pick (ltb a 0x20) Plain
-    (pick (ltb a 0x24) (evenOdd a (Half ((a - 0x18) / 2)) (Whole ((a - 0x18) / 2)))
-    (pick (ltb a 0x40) Plain
-    (pick (ltb a 0x50) Status
-    (pick (ltb a 0x52) (Whole ((a - 0x50) * 2))
-    (pick (ltb a 0x54) (Whole (a - 0x4E))
-    (pick (ltb a 0x56) Plain
-    (pick (ltb a 0x66) (Volt (a - 0x56))
-    (pick (ltb a 0x6E) Plain
-    (pick (ltb a 0x76) (evenOdd a (FanLow ((a - 0x6E) / 2)) (FanHigh ((a - 0x6E) / 2)))
-    (pick (ltb a 0x90) Plain
-    (pick (ltb a 0xB0) (evenOdd a (VoltLow ((a - 0x90) / 2)) (VoltHigh ((a - 0x90) / 2)))
-    (pick (ltb a 0xB4) Plain
-    (pick (ltb a 0xBC) (evenOdd a (FanLimitLow ((a - 0xB4) / 2)) (FanLimitHigh ((a - 0xB4) / 2)))
-    Plain)))))))))))))))))
+kindOf a = climbed ladder a
 
--- ---- one law for each rung
+-- ---- the law of the rungs
 
-module _ (a : ℕ) where
-  pub kind-plain-00 : a < 0x06 → kindOf a ≡ Plain
-  unfolding kindOf
-  kind-plain-00 q = simp (lt-ltb a 0x06 q)
+-- whether the bounds rise, the first from b
+abbrev rising : ℕ → List Rung → Bool
+rising b [] = true
+rising b (below bound kind ∷ rungs) = both (leb b bound) (rising bound rungs)
 
-  pub kind-whole-06 : 0x06 ≤ a → a < 0x08 → kindOf a ≡ Whole ((a - 0x06) * 2 + 1)
-  unfolding kindOf
-  kind-whole-06 p q = simp (le-ltb a 0x06 (omega arith), lt-ltb a 0x08 q)
+-- a is not below the bound before rung n, which is b before the first, and is below rung n's own
+abbrev pub StandsOn : ℕ → List Rung → ℕ → ℕ → Type 0
+StandsOn b [] n a = b ≤ a
+StandsOn b (below bound kind ∷ rungs) zero a = (b ≤ a) × (a < bound)
+StandsOn b (below bound kind ∷ rungs) (suc n) a = StandsOn bound rungs n a
 
-  pub kind-plain-08 : 0x08 ≤ a → a < 0x10 → kindOf a ≡ Plain
-  unfolding kindOf
-  kind-plain-08 p q = simp (le-ltb a 0x06 (omega arith), le-ltb a 0x08 (omega arith), lt-ltb a 0x10 q)
+-- the kind that rung n gives
+abbrev pub kindOn : List Rung → ℕ → ℕ → Kind
+kindOn [] n a = Plain
+kindOn (below bound kind ∷ rungs) zero a = kind a
+kindOn (below bound kind ∷ rungs) (suc n) a = kindOn rungs n a
 
-  pub kind-pair-10 : 0x10 ≤ a → a < 0x18 → kindOf a ≡ evenOdd a (Half ((a - 0x10) / 2)) (Whole ((a - 0x10) / 2))
-  unfolding kindOf
-  kind-pair-10 p q = simp (le-ltb a 0x06 (omega arith), le-ltb a 0x08 (omega arith), le-ltb a 0x10 (omega arith), lt-ltb a 0x18 q)
+-- where bounds rise, an address that stands on a rung is not below the first bound
+above : (b : ℕ) (rungs : List Rung) (n a : ℕ) → rising b rungs ≡ true → StandsOn b rungs n a → b ≤ a
+above b [] n a r s = s
+above b (below bound kind ∷ rungs) zero a r s = s .0
+above b (below bound kind ∷ rungs) (suc n) a r s =
+    omega (arith, leb-true b bound (both-left _ _ r), above bound rungs n a (both-right (leb b bound) _ r) s)
 
-  pub kind-plain-18 : 0x18 ≤ a → a < 0x20 → kindOf a ≡ Plain
-  unfolding kindOf
-  kind-plain-18 p q = simp (le-ltb a 0x06 (omega arith), le-ltb a 0x08 (omega arith), le-ltb a 0x10 (omega arith), le-ltb a 0x18 (omega arith), lt-ltb a 0x20 q)
+-- where bounds rise, an address that stands on a rung has that rung's kind
+on-rung : (b : ℕ) (rungs : List Rung) (n a : ℕ) → rising b rungs ≡ true → StandsOn b rungs n a → climbed rungs a ≡ kindOn rungs n a
+on-rung b [] n a r s = refl
+on-rung b (below bound kind ∷ rungs) zero a r s = rw (lt-ltb a bound (s .1))
+on-rung b (below bound kind ∷ rungs) (suc n) a r s =
+    let t : rising bound rungs ≡ true = both-right (leb b bound) _ r in
+    rw (le-ltb a bound (above bound rungs n a t s)) (on-rung bound rungs n a t s)
 
-  pub kind-pair-20 : 0x20 ≤ a → a < 0x24 → kindOf a ≡ evenOdd a (Half ((a - 0x18) / 2)) (Whole ((a - 0x18) / 2))
-  unfolding kindOf
-  kind-pair-20 p q = simp (le-ltb a 0x06 (omega arith), le-ltb a 0x08 (omega arith), le-ltb a 0x10 (omega arith), le-ltb a 0x18 (omega arith), le-ltb a 0x20 (omega arith), lt-ltb a 0x24 q)
-
-  pub kind-plain-24 : 0x24 ≤ a → a < 0x40 → kindOf a ≡ Plain
-  unfolding kindOf
-  kind-plain-24 p q = simp (le-ltb a 0x06 (omega arith), le-ltb a 0x08 (omega arith), le-ltb a 0x10 (omega arith), le-ltb a 0x18 (omega arith), le-ltb a 0x20 (omega arith), le-ltb a 0x24 (omega arith), lt-ltb a 0x40 q)
-
-  pub kind-status : 0x40 ≤ a → a < 0x50 → kindOf a ≡ Status
-  unfolding kindOf
-  kind-status p q = simp (le-ltb a 0x06 (omega arith), le-ltb a 0x08 (omega arith), le-ltb a 0x10 (omega arith), le-ltb a 0x18 (omega arith), le-ltb a 0x20 (omega arith), le-ltb a 0x24 (omega arith), le-ltb a 0x40 (omega arith), lt-ltb a 0x50 q)
-
-  pub kind-whole-50 : 0x50 ≤ a → a < 0x52 → kindOf a ≡ Whole ((a - 0x50) * 2)
-  unfolding kindOf
-  kind-whole-50 p q = simp (le-ltb a 0x06 (omega arith), le-ltb a 0x08 (omega arith), le-ltb a 0x10 (omega arith), le-ltb a 0x18 (omega arith), le-ltb a 0x20 (omega arith), le-ltb a 0x24 (omega arith), le-ltb a 0x40 (omega arith), le-ltb a 0x50 (omega arith), lt-ltb a 0x52 q)
-
-  pub kind-whole-52 : 0x52 ≤ a → a < 0x54 → kindOf a ≡ Whole (a - 0x4E)
-  unfolding kindOf
-  kind-whole-52 p q = simp (le-ltb a 0x06 (omega arith), le-ltb a 0x08 (omega arith), le-ltb a 0x10 (omega arith), le-ltb a 0x18 (omega arith), le-ltb a 0x20 (omega arith), le-ltb a 0x24 (omega arith), le-ltb a 0x40 (omega arith), le-ltb a 0x50 (omega arith), le-ltb a 0x52 (omega arith), lt-ltb a 0x54 q)
-
-  pub kind-plain-54 : 0x54 ≤ a → a < 0x56 → kindOf a ≡ Plain
-  unfolding kindOf
-  kind-plain-54 p q = simp (le-ltb a 0x06 (omega arith), le-ltb a 0x08 (omega arith), le-ltb a 0x10 (omega arith), le-ltb a 0x18 (omega arith), le-ltb a 0x20 (omega arith), le-ltb a 0x24 (omega arith), le-ltb a 0x40 (omega arith), le-ltb a 0x50 (omega arith), le-ltb a 0x52 (omega arith), le-ltb a 0x54 (omega arith), lt-ltb a 0x56 q)
-
-  pub kind-volt : 0x56 ≤ a → a < 0x66 → kindOf a ≡ Volt (a - 0x56)
-  unfolding kindOf
-  kind-volt p q = simp (le-ltb a 0x06 (omega arith), le-ltb a 0x08 (omega arith), le-ltb a 0x10 (omega arith), le-ltb a 0x18 (omega arith), le-ltb a 0x20 (omega arith), le-ltb a 0x24 (omega arith), le-ltb a 0x40 (omega arith), le-ltb a 0x50 (omega arith), le-ltb a 0x52 (omega arith), le-ltb a 0x54 (omega arith), le-ltb a 0x56 (omega arith), lt-ltb a 0x66 q)
-
-  pub kind-plain-66 : 0x66 ≤ a → a < 0x6E → kindOf a ≡ Plain
-  unfolding kindOf
-  kind-plain-66 p q = simp (le-ltb a 0x06 (omega arith), le-ltb a 0x08 (omega arith), le-ltb a 0x10 (omega arith), le-ltb a 0x18 (omega arith), le-ltb a 0x20 (omega arith), le-ltb a 0x24 (omega arith), le-ltb a 0x40 (omega arith), le-ltb a 0x50 (omega arith), le-ltb a 0x52 (omega arith), le-ltb a 0x54 (omega arith), le-ltb a 0x56 (omega arith), le-ltb a 0x66 (omega arith), lt-ltb a 0x6E q)
-
-  pub kind-fan : 0x6E ≤ a → a < 0x76 → kindOf a ≡ evenOdd a (FanLow ((a - 0x6E) / 2)) (FanHigh ((a - 0x6E) / 2))
-  unfolding kindOf
-  kind-fan p q = simp (le-ltb a 0x06 (omega arith), le-ltb a 0x08 (omega arith), le-ltb a 0x10 (omega arith), le-ltb a 0x18 (omega arith), le-ltb a 0x20 (omega arith), le-ltb a 0x24 (omega arith), le-ltb a 0x40 (omega arith), le-ltb a 0x50 (omega arith), le-ltb a 0x52 (omega arith), le-ltb a 0x54 (omega arith), le-ltb a 0x56 (omega arith), le-ltb a 0x66 (omega arith), le-ltb a 0x6E (omega arith), lt-ltb a 0x76 q)
-
-  pub kind-plain-76 : 0x76 ≤ a → a < 0x90 → kindOf a ≡ Plain
-  unfolding kindOf
-  kind-plain-76 p q = simp (le-ltb a 0x06 (omega arith), le-ltb a 0x08 (omega arith), le-ltb a 0x10 (omega arith), le-ltb a 0x18 (omega arith), le-ltb a 0x20 (omega arith), le-ltb a 0x24 (omega arith), le-ltb a 0x40 (omega arith), le-ltb a 0x50 (omega arith), le-ltb a 0x52 (omega arith), le-ltb a 0x54 (omega arith), le-ltb a 0x56 (omega arith), le-ltb a 0x66 (omega arith), le-ltb a 0x6E (omega arith), le-ltb a 0x76 (omega arith), lt-ltb a 0x90 q)
-
-  pub kind-volt-limit : 0x90 ≤ a → a < 0xB0 → kindOf a ≡ evenOdd a (VoltLow ((a - 0x90) / 2)) (VoltHigh ((a - 0x90) / 2))
-  unfolding kindOf
-  kind-volt-limit p q = simp (le-ltb a 0x06 (omega arith), le-ltb a 0x08 (omega arith), le-ltb a 0x10 (omega arith), le-ltb a 0x18 (omega arith), le-ltb a 0x20 (omega arith), le-ltb a 0x24 (omega arith), le-ltb a 0x40 (omega arith), le-ltb a 0x50 (omega arith), le-ltb a 0x52 (omega arith), le-ltb a 0x54 (omega arith), le-ltb a 0x56 (omega arith), le-ltb a 0x66 (omega arith), le-ltb a 0x6E (omega arith), le-ltb a 0x76 (omega arith), le-ltb a 0x90 (omega arith), lt-ltb a 0xB0 q)
-
-  pub kind-plain-B0 : 0xB0 ≤ a → a < 0xB4 → kindOf a ≡ Plain
-  unfolding kindOf
-  kind-plain-B0 p q = simp (le-ltb a 0x06 (omega arith), le-ltb a 0x08 (omega arith), le-ltb a 0x10 (omega arith), le-ltb a 0x18 (omega arith), le-ltb a 0x20 (omega arith), le-ltb a 0x24 (omega arith), le-ltb a 0x40 (omega arith), le-ltb a 0x50 (omega arith), le-ltb a 0x52 (omega arith), le-ltb a 0x54 (omega arith), le-ltb a 0x56 (omega arith), le-ltb a 0x66 (omega arith), le-ltb a 0x6E (omega arith), le-ltb a 0x76 (omega arith), le-ltb a 0x90 (omega arith), le-ltb a 0xB0 (omega arith), lt-ltb a 0xB4 q)
-
-  pub kind-fan-limit : 0xB4 ≤ a → a < 0xBC → kindOf a ≡ evenOdd a (FanLimitLow ((a - 0xB4) / 2)) (FanLimitHigh ((a - 0xB4) / 2))
-  unfolding kindOf
-  kind-fan-limit p q = simp (le-ltb a 0x06 (omega arith), le-ltb a 0x08 (omega arith), le-ltb a 0x10 (omega arith), le-ltb a 0x18 (omega arith), le-ltb a 0x20 (omega arith), le-ltb a 0x24 (omega arith), le-ltb a 0x40 (omega arith), le-ltb a 0x50 (omega arith), le-ltb a 0x52 (omega arith), le-ltb a 0x54 (omega arith), le-ltb a 0x56 (omega arith), le-ltb a 0x66 (omega arith), le-ltb a 0x6E (omega arith), le-ltb a 0x76 (omega arith), le-ltb a 0x90 (omega arith), le-ltb a 0xB0 (omega arith), le-ltb a 0xB4 (omega arith), lt-ltb a 0xBC q)
-
-  pub kind-plain-BC : 0xBC ≤ a → kindOf a ≡ Plain
-  unfolding kindOf
-  kind-plain-BC p = simp (le-ltb a 0x06 (omega arith), le-ltb a 0x08 (omega arith), le-ltb a 0x10 (omega arith), le-ltb a 0x18 (omega arith), le-ltb a 0x20 (omega arith), le-ltb a 0x24 (omega arith), le-ltb a 0x40 (omega arith), le-ltb a 0x50 (omega arith), le-ltb a 0x52 (omega arith), le-ltb a 0x54 (omega arith), le-ltb a 0x56 (omega arith), le-ltb a 0x66 (omega arith), le-ltb a 0x6E (omega arith), le-ltb a 0x76 (omega arith), le-ltb a 0x90 (omega arith), le-ltb a 0xB0 (omega arith), le-ltb a 0xB4 (omega arith), le-ltb a 0xBC (omega arith))
+-- an address on rung n of the ladder, counted from 0, has that rung's kind
+pub kind-on : (n a : ℕ) → StandsOn 0 ladder n a → kindOf a ≡ kindOn ladder n a
+unfolding kindOf
+kind-on n a = on-rung 0 ladder n a refl

@@ -11,33 +11,33 @@ use Rattle.text.specs.Number.{isDigit, allDigits, valueOf, runOf, plusOf, minus
 use Rattle.text.specs.Hex.{nibbleOf, hexByteOf}
 use Rattle.parse.specs.declared.Parsed.{Parsed}
 use Rattle.parse.specs.declared.Parsed.the-variants.{Wrong, Fine}
-use Rattle.parse.specs.Parse.{letterOf, numberAt, indexOf, readingOf, countOf, pairOf, temperatureLine, voltageLine, pinLine, aloneLine, writeBy, writeLine, readBy, readLine, eventOf}
+use Rattle.parse.specs.Parse.{letterOf, numberAt, indexOf, spelledReading, countOf, pairOf, temperatureLine, voltageLine, pinLine, aloneLine, writeBy, writeLine, readBy, readLine, eventBy, eventOf}
 
 -- what a line says, by its own letter
 abbrev pub said : List ℕ → Parsed
-said s = eventOf (letterOf s) s
+said s = eventOf s
 
 -- "T\t1\t70", "T\t5\t-254", "T\t1\t-"; "-0" and a carriage return are wrong spelling
 pub temperatures : (said (84 ∷ 9 ∷ 49 ∷ 9 ∷ 55 ∷ 48 ∷ []) ≡ Fine (Temperature 1 (reading.Taken (pos 70)))) × (said (84 ∷ 9 ∷ 53 ∷ 9 ∷ 45 ∷ 50 ∷ 53 ∷ 52 ∷ []) ≡ Fine (Temperature 5 (reading.Taken (negsuc 253)))) × (said (84 ∷ 9 ∷ 49 ∷ 9 ∷ 45 ∷ []) ≡ Fine (Temperature 1 reading.Missing)) × (said (84 ∷ 9 ∷ 49 ∷ 9 ∷ 45 ∷ 48 ∷ []) ≡ Wrong) × (said (84 ∷ 9 ∷ 49 ∷ 9 ∷ 55 ∷ 48 ∷ 13 ∷ []) ≡ Wrong)
-unfolding eventOf letterOf fieldsOf firstField otherFields fieldAt temperatureLine pairOf readingOf numberAt indexOf decimalOf plusOf minusOf runOf allDigits isDigit valueOf isSpelt
+unfolding eventBy letterOf fieldsOf firstField otherFields fieldAt temperatureLine pairOf spelledReading numberAt indexOf decimalOf plusOf minusOf runOf allDigits isDigit valueOf isSpelt
 temperatures = (refl, refl, refl, refl, refl)
 
 -- "V\t17\t5" is spelled right, and so is a number of 30 digits: ranges are the event's business
 pub voltages : (said (86 ∷ 9 ∷ 49 ∷ 55 ∷ 9 ∷ 53 ∷ []) ≡ Fine (Voltage 17 (count.Taken 5))) × (said (86 ∷ 9 ∷ 49 ∷ 9 ∷ 49 ∷ 50 ∷ 51 ∷ 52 ∷ 53 ∷ 54 ∷ 55 ∷ 56 ∷ 57 ∷ 48 ∷ 49 ∷ 50 ∷ 51 ∷ 52 ∷ 53 ∷ 54 ∷ 55 ∷ 56 ∷ 57 ∷ 48 ∷ 49 ∷ 50 ∷ 51 ∷ 52 ∷ 53 ∷ 54 ∷ 55 ∷ 56 ∷ 57 ∷ 48 ∷ []) ≡ Fine (Voltage 1 (count.Taken 123456789012345678901234567890)))
-unfolding eventOf letterOf fieldsOf firstField otherFields fieldAt voltageLine pairOf countOf numberAt indexOf decimalOf plusOf minusOf runOf allDigits isDigit valueOf isSpelt
+unfolding eventBy letterOf fieldsOf firstField otherFields fieldAt voltageLine pairOf countOf numberAt indexOf decimalOf plusOf minusOf runOf allDigits isDigit valueOf isSpelt
 voltages = (refl, refl)
 
 -- "A\t-" and "A\t2"
 pub pins : (said (65 ∷ 9 ∷ 45 ∷ []) ≡ Fine (Pin count.Missing)) × (said (65 ∷ 9 ∷ 50 ∷ []) ≡ Fine (Pin (count.Taken 2)))
-unfolding eventOf letterOf fieldsOf firstField otherFields fieldAt pinLine countOf numberAt decimalOf plusOf minusOf runOf allDigits isDigit valueOf isSpelt
+unfolding eventBy letterOf fieldsOf firstField otherFields fieldAt pinLine countOf numberAt decimalOf plusOf minusOf runOf allDigits isDigit valueOf isSpelt
 pins = (refl, refl)
 
 -- "W\t2C\tBF\t01" and "R\t2C\t52"; "R\t2C\t-" is wrong spelling
 pub transactions : (said (87 ∷ 9 ∷ 50 ∷ 67 ∷ 9 ∷ 66 ∷ 70 ∷ 9 ∷ 48 ∷ 49 ∷ []) ≡ Fine (Write 0x2C 0xBF 0x01)) × (said (82 ∷ 9 ∷ 50 ∷ 67 ∷ 9 ∷ 53 ∷ 50 ∷ []) ≡ Fine (Read 0x2C 0x52)) × (said (82 ∷ 9 ∷ 50 ∷ 67 ∷ 9 ∷ 45 ∷ []) ≡ Wrong)
-unfolding eventOf letterOf fieldsOf firstField otherFields fieldAt writeLine writeBy readLine readBy hexByteOf nibbleOf
+unfolding eventBy letterOf fieldsOf firstField otherFields fieldAt writeLine writeBy readLine readBy hexByteOf nibbleOf
 transactions = (refl, refl, refl)
 
 -- "K"; "K\t1" has a field too many, and an empty line has no letter
 pub alone : (said (75 ∷ []) ≡ Fine Tick) × (said (75 ∷ 9 ∷ 49 ∷ []) ≡ Wrong) × (said [] ≡ Wrong)
-unfolding eventOf letterOf fieldsOf firstField otherFields fieldAt aloneLine
+unfolding eventBy letterOf fieldsOf firstField otherFields fieldAt aloneLine
 alone = (refl, refl, refl)

@@ -1,20 +1,18 @@
--- What the code hands on: the same events, with numbers no larger than their types hold. No event can tell (law `clamped-step`).
+-- What the code hands on: the same events, with numbers no larger than their types hold. No event can tell (law `clamped-taken`).
 -- Assumes nothing.
-use Prim.Native.Nat.{ℕ, _-_, _<_, min}
+use Prim.Native.Nat.{ℕ, _<_, min}
 use mathlib.Core.Path.{_≡_, refl}
 use native.Mathlib.Omega.{arith}
-use lib.Dec.{eqb}
 use lib.IntN.{pos, negsuc}
+use Rattle.laws.specs.Pick.{pick}
 use Rattle.laws.specs.Both.{both-false}
 use Rattle.temperature.specs.declared.Reading.{Reading}
 use Rattle.temperature.specs.declared.Reading.the-variants as reading
-use Rattle.state.specs.declared.Chip.{Chip}
 use Rattle.state.specs.declared.Count.{Count}
 use Rattle.state.specs.declared.Count.the-variants as count
 use Rattle.event.specs.declared.Event.{Event}
 use Rattle.event.specs.declared.Event.the-variants.{Temperature, Voltage, Fan, Hot, Pin, Tick, Reset, Write, Read}
-use Rattle.sense.specs.Events.{tookTemperature, tookVoltage, tookFan, tookHot, tookPin}
-use Rattle.event.specs.Event.{indexIn, readingIn, countIn, levelIn, levelOf, eventIn, quietStep, refusedStep, takenStep, steppedChip}
+use Rattle.event.specs.Event.{indexIn, readingIn, countIn, levelIn, eventIn}
 use Rattle.text.specs.Number.{saturated}
 use Rattle.parse.specs.declared.Parsed.{Parsed}
 use Rattle.parse.specs.declared.Parsed.the-variants.{Wrong, Fine}
@@ -78,20 +76,19 @@ unfolding clampedCount levelIn
 level-unseen count.Missing most h = same refl
 level-unseen (count.Taken n) most h = within-unseen (levelIn most) count.Taken (λ k e. e) (held-unseen n 65535 most h)
 
--- no event can tell: it is refused or taken alike, and leaves and answers the same
-pub clamped-step : (c : Chip) (e : Event) → steppedChip c (clampedEvent e) ≡ steppedChip c e
-unfolding clampedEvent steppedChip eventIn takenStep
-clamped-step c (Temperature zone r) =
-    both-unseen (λ i x. quietStep (tookTemperature c (i - 1) x)) (refusedStep c) (index-unseen zone 5 (omega arith)) (reading-unseen r)
-clamped-step c (Voltage channel n) =
-    both-unseen (λ i x. quietStep (tookVoltage c (i - 1) x)) (refusedStep c) (index-unseen channel 16 (omega arith)) (count-unseen n 255 (omega arith))
-clamped-step c (Fan fan n) =
-    both-unseen (λ i x. quietStep (tookFan c (i - 1) x)) (refusedStep c) (index-unseen fan 4 (omega arith)) (count-unseen n 16383 (omega arith))
-clamped-step c (Hot input level) =
-    both-unseen (λ i x. quietStep (tookHot c (i - 1) (eqb (levelOf x) 1))) (refusedStep c) (index-unseen input 4 (omega arith)) (level-unseen level 1 (omega arith))
-clamped-step c (Pin level) =
-    one-unseen (λ x. quietStep (tookPin c (levelOf x))) (refusedStep c) (level-unseen level 2 (omega arith))
-clamped-step c Tick = refl
-clamped-step c Reset = refl
-clamped-step c (Write address a byte) = refl
-clamped-step c (Read address a) = refl
+-- no event can tell: what is made of it where its numbers are in range, and only there, is the same
+pub clamped-taken : {A : Type 0} (made : Event → A) (refused : A) (e : Event) → pick (eventIn (clampedEvent e)) (made (clampedEvent e)) refused ≡ pick (eventIn e) (made e) refused
+unfolding clampedEvent eventIn
+clamped-taken made refused (Temperature zone r) =
+    both-unseen (λ i x. made (Temperature i x)) refused (index-unseen zone 5 (omega arith)) (reading-unseen r)
+clamped-taken made refused (Voltage channel n) =
+    both-unseen (λ i x. made (Voltage i x)) refused (index-unseen channel 16 (omega arith)) (count-unseen n 255 (omega arith))
+clamped-taken made refused (Fan fan n) =
+    both-unseen (λ i x. made (Fan i x)) refused (index-unseen fan 4 (omega arith)) (count-unseen n 16383 (omega arith))
+clamped-taken made refused (Hot input level) =
+    both-unseen (λ i x. made (Hot i x)) refused (index-unseen input 4 (omega arith)) (level-unseen level 1 (omega arith))
+clamped-taken made refused (Pin level) = one-unseen (λ x. made (Pin x)) refused (level-unseen level 2 (omega arith))
+clamped-taken made refused Tick = refl
+clamped-taken made refused Reset = refl
+clamped-taken made refused (Write address a byte) = refl
+clamped-taken made refused (Read address a) = refl

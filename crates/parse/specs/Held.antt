@@ -18,27 +18,20 @@ use Rattle.text.specs.declared.Hex.the-variants as hex
 use Rattle.text.specs.Fields.{fieldsOf, fieldAt}
 use Rattle.text.specs.Number.{isSpelt, saturated}
 use Rattle.text.specs.Hex.{hexByteOf}
+use Rattle.text.specs.Saturated.{saturated-spelt}
 use Rattle.parse.specs.declared.Parsed.{Parsed}
 use Rattle.parse.specs.declared.Parsed.the-variants.{Fine}
 use Rattle.parse.specs.declared.Pair.{Pair}
 use Rattle.parse.specs.declared.Pair.the-variants.{Wrong, Of}
-use Rattle.parse.specs.Parse.{indexOf, readingOf, countOf, temperatureLine, voltageLine, fanLine, hotLine, aloneLine, writeBy, writeLine, readBy, readLine}
+use Rattle.parse.specs.Parse.{indexOf, spelledReading, countOf, temperatureLine, voltageLine, fanLine, hotLine, aloneLine, writeBy, writeLine, readBy, readLine}
 use Rattle.parse.specs.Pairs.{bothOf, pairLine}
 use Rattle.parse.specs.Clamped.{saturatedPair, clampedIndex, clampedReading, clampedCount, clampedEvent, clampedParsed}
 
 -- ---- numbers
 
--- spelled right or not
-pub spelt-held : (n : Number) → isSpelt (saturated n) ≡ isSpelt n
-unfolding isSpelt saturated
-spelt-held number.Wrong = refl
-spelt-held number.Dash = refl
-spelt-held (number.Plus v) = refl
-spelt-held (number.Minus v) = refl
-
 -- as the code finds it: m is the number that it has, t what it says of m
 pub spelt-as : (n : Number) {m : Number} {t u : Bool} → m ≡ saturated n → t ≡ isSpelt m → t ≡ u → isSpelt n ≡ u
-spelt-as n p q r = cc (spelt-held n)
+spelt-as n p q r = cc (saturated-spelt n)
 
 pub index-held : (n : Number) → clampedIndex (indexOf (saturated n)) ≡ clampedIndex (indexOf n)
 unfolding clampedIndex indexOf saturated
@@ -63,8 +56,8 @@ clamped-minus (suc v) = let e : min (suc v) 32767 ≡ suc (min v 32766) = omega 
 min-min : (v : ℕ) → min (min v 65535) 32767 ≡ min v 32767
 min-min v = omega arith
 
-pub reading-held : (n : Number) → clampedReading (readingOf (saturated n)) ≡ clampedReading (readingOf n)
-unfolding clampedReading readingOf saturated
+pub reading-held : (n : Number) → clampedReading (spelledReading (saturated n)) ≡ clampedReading (spelledReading n)
+unfolding clampedReading spelledReading saturated
 reading-held number.Wrong = refl
 reading-held number.Dash = refl
 reading-held (number.Plus v) = rw (min-min v)
@@ -76,28 +69,28 @@ reading-held (number.Minus v) = rw (clamped-minus (min v 65535), clamped-minus v
 pub both-held : (i v : Number) → saturatedPair (bothOf i v) ≡ bothOf (saturated i) (saturated v)
 unfolding saturatedPair bothOf
 both-held i v =
-    rw (spelt-held i, spelt-held v) (pick-related (λ (p q : Pair). saturatedPair p ≡ q) (both (isSpelt i) (isSpelt v)) refl refl)
+    rw (saturated-spelt i, saturated-spelt v) (pick-related (λ (p q : Pair). saturatedPair p ≡ q) (both (isSpelt i) (isSpelt v)) refl refl)
 
 -- handed on as the same
-abbrev Alike : Parsed → Parsed → Type 0
-Alike x y = clampedParsed x ≡ clampedParsed y
+abbrev SameClamped : Parsed → Parsed → Type 0
+SameClamped x y = clampedParsed x ≡ clampedParsed y
 
-temperature-held : (p : Pair) → Alike (temperatureLine (saturatedPair p)) (temperatureLine p)
+temperature-held : (p : Pair) → SameClamped (temperatureLine (saturatedPair p)) (temperatureLine p)
 unfolding clampedParsed clampedEvent saturatedPair temperatureLine
 temperature-held Wrong = refl
 temperature-held (Of i v) = rw (index-held i, reading-held v)
 
-voltage-held : (p : Pair) → Alike (voltageLine (saturatedPair p)) (voltageLine p)
+voltage-held : (p : Pair) → SameClamped (voltageLine (saturatedPair p)) (voltageLine p)
 unfolding clampedParsed clampedEvent saturatedPair voltageLine
 voltage-held Wrong = refl
 voltage-held (Of i v) = rw (index-held i, count-held v)
 
-fan-held : (p : Pair) → Alike (fanLine (saturatedPair p)) (fanLine p)
+fan-held : (p : Pair) → SameClamped (fanLine (saturatedPair p)) (fanLine p)
 unfolding clampedParsed clampedEvent saturatedPair fanLine
 fan-held Wrong = refl
 fan-held (Of i v) = rw (index-held i, count-held v)
 
-hot-held : (p : Pair) → Alike (hotLine (saturatedPair p)) (hotLine p)
+hot-held : (p : Pair) → SameClamped (hotLine (saturatedPair p)) (hotLine p)
 unfolding clampedParsed clampedEvent saturatedPair hotLine
 hot-held Wrong = refl
 hot-held (Of i v) = rw (index-held i, count-held v)
@@ -106,10 +99,10 @@ hot-held (Of i v) = rw (index-held i, count-held v)
 pub pair-held : (letter : ℕ) (p : Pair) → clampedParsed (pairLine letter (saturatedPair p)) ≡ clampedParsed (pairLine letter p)
 unfolding pairLine
 pair-held letter p =
-    pick-related Alike (eqb letter 70) (fan-held p)
-    (pick-related Alike (eqb letter 72) (hot-held p)
-    (pick-related Alike (eqb letter 84) (temperature-held p)
-    (pick-related Alike (eqb letter 86) (voltage-held p) refl)))
+    pick-related SameClamped (eqb letter 70) (fan-held p)
+    (pick-related SameClamped (eqb letter 72) (hot-held p)
+    (pick-related SameClamped (eqb letter 84) (temperature-held p)
+    (pick-related SameClamped (eqb letter 86) (voltage-held p) refl)))
 
 -- a letter alone, and bus fields, have no number to hold
 pub alone-clamped : (e : Event) (s : List ℕ) → clampedEvent e ≡ e → clampedParsed (aloneLine e s) ≡ aloneLine e s

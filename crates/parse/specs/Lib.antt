@@ -1,5 +1,6 @@
 pub mod Parse
 pub mod Pairs
+pub mod Tabbed
 pub mod Walked
 pub mod Unseen
 pub mod Clamped

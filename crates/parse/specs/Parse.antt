@@ -41,11 +41,11 @@ indexOf (number.Plus v) = v
 indexOf (number.Minus v) = 0
 
 -- '"-" for missing or none'
-unfoldable pub readingOf : Number → Reading
-readingOf number.Wrong = reading.Missing
-readingOf number.Dash = reading.Missing
-readingOf (number.Plus v) = reading.Taken (pos v)
-readingOf (number.Minus v) = reading.Taken (negℤ (pos v))
+unfoldable pub spelledReading : Number → Reading
+spelledReading number.Wrong = reading.Missing
+spelledReading number.Dash = reading.Missing
+spelledReading (number.Plus v) = reading.Taken (pos v)
+spelledReading (number.Minus v) = reading.Taken (negℤ (pos v))
 
 -- a count below 0 is out of range, as 65535 is
 unfoldable pub countOf : Number → Count
@@ -63,7 +63,7 @@ pairOf s =
 
 unfoldable pub temperatureLine : Pair → Parsed
 temperatureLine pair.Wrong = Wrong
-temperatureLine (pair.Of i v) = Fine (Temperature (indexOf i) (readingOf v))
+temperatureLine (pair.Of i v) = Fine (Temperature (indexOf i) (spelledReading v))
 
 unfoldable pub voltageLine : Pair → Parsed
 voltageLine pair.Wrong = Wrong
@@ -104,9 +104,9 @@ readBy (hex.Byte a) (hex.Byte r) = Fine (Read a r)
 unfoldable pub readLine : List ℕ → Parsed
 readLine s = pick (eqb (length (fieldsOf s)) 3) (readBy (hexByteOf (fieldAt s 1)) (hexByteOf (fieldAt s 2))) Wrong
 
--- the event that a line says by its letter; any other letter is wrong spelling
-unfoldable pub eventOf : ℕ → List ℕ → Parsed
-eventOf letter s =
+-- the event that a line says by this letter; any other letter is wrong spelling
+unfoldable pub eventBy : ℕ → List ℕ → Parsed
+eventBy letter s =
     pick (eqb letter 65) (pinLine s)
     (pick (eqb letter 70) (fanLine (pairOf s))
     (pick (eqb letter 72) (hotLine (pairOf s))
@@ -116,3 +116,6 @@ eventOf letter s =
     (pick (eqb letter 86) (voltageLine (pairOf s))
     (pick (eqb letter 87) (writeLine s)
     (pick (eqb letter 88) (aloneLine Reset s) Wrong))))))))
+
+abbrev pub eventOf : List ℕ → Parsed
+eventOf s = eventBy (letterOf s) s

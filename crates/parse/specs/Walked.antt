@@ -3,19 +3,21 @@ use mathlib.Core.Path.{_≡_, refl}
 use mathlib.Core.List.{List, [], _∷_}
 use mathlib.Core.Logic.{by-cases}
 use Prim.Native.Nat.{ℕ, _+_, _-_, _<_}
-use native.Mathlib.Decide.{ℕ-discrete}
+use native.Mathlib.Decide.{ℕ-discrete, decLt}
 use native.Mathlib.Omega.{arith}
 use lib.Dec.{eqb}
 use lib.ListN.{length, getD, take, drop}
 use borrow.Author.Tests.{eq-eqb, ne-eqb}
 use Rattle.laws.specs.Pick.{pick}
+use Rattle.laws.specs.Both.{both-false}
 use Rattle.laws.specs.Left.{left-part}
 use Rattle.text.specs.Fields.{firstField, fieldsOf, fieldAt}
-use Rattle.text.specs.Number.{decimalOf}
-use Rattle.text.specs.Walk.{fields-more, fields-one}
+use Rattle.text.specs.Number.{isSpelt, decimalOf}
+use Rattle.text.specs.Walk.{first-within, fields-more, fields-one}
 use Rattle.parse.specs.declared.Pair.the-variants.{Wrong}
 use Rattle.parse.specs.Parse.{letterOf, numberAt, pairOf}
 use Rattle.parse.specs.Pairs.{bothOf}
+use Rattle.parse.specs.Tabbed.{tabbed-wrong}
 
 -- the letter by a line's first two bytes
 pub letter-walked : (s : List ℕ) → letterOf s ≡ pick (eqb (length s) 0) 0 (pick (eqb (getD s 0 0) 9) 0 (pick (eqb (length s) 1) (getD s 0 0) (pick (eqb (getD s 1 0) 9) (getD s 0 0) 0)))
@@ -56,13 +58,17 @@ module _ {s r : List ℕ} (b : Behind s r) where
   pair-two h = rw (fields-behind b, fields-one r h)
 
   module _ {t : List ℕ} (d : Behind r t) where
-    pub pair-three : length (firstField t) ≡ length t → pairOf s ≡ bothOf (decimalOf (firstField r)) (decimalOf t)
+    pair-three : length (firstField t) ≡ length t → pairOf s ≡ bothOf (decimalOf (firstField r)) (decimalOf t)
     unfolding pairOf bothOf numberAt fieldAt
     pair-three h = rw (fields-behind b, fields-behind d, fields-one t h)
 
-    pub pair-more : length (firstField t) < length t → pairOf s ≡ Wrong
-    unfolding pairOf
+    pair-more : length (firstField t) < length t → pairOf s ≡ bothOf (decimalOf (firstField r)) (decimalOf t)
+    unfolding pairOf bothOf isSpelt
     pair-more h =
         let left = drop (length (firstField t) + 1) t in
         let more = ne-eqb (length (firstField s ∷ firstField r ∷ firstField t ∷ fieldsOf left)) 3 (λ e. omega (arith, fields-some left)) in
-        rw (fields-behind b, fields-behind d, fields-more t h, more)
+        rw (fields-behind b, fields-behind d, fields-more t h, more, tabbed-wrong t h, both-false)
+
+    -- two fields or more behind the letter: what stands behind the first of them is the second, or is spelled wrong
+    pub pair-rest : pairOf s ≡ bothOf (decimalOf (firstField r)) (decimalOf t)
+    pair-rest = by-cases (decLt (length (firstField t)) (length t)) pair-more (λ n. pair-three (omega (arith, first-within t)))

@@ -3,7 +3,7 @@ ghost use mathlib.Core.Path.{_≡_};
 ghost use Prim.Native.Nat.{min};
 ghost use lib.IntN.{pos, negℤ};
 ghost use Rattle.text.specs.Number.{saturated};
-ghost use Rattle.parse.specs.Parse.{numberAt, letterOf, indexOf, readingOf, countOf, pairOf, pinLine, aloneLine, writeBy, writeLine, readBy, readLine, eventOf};
+ghost use Rattle.parse.specs.Parse.{numberAt, letterOf, indexOf, spelledReading, countOf, pairOf, pinLine, aloneLine, writeBy, writeLine, readBy, readLine, eventBy, eventOf};
 ghost use Rattle.parse.specs.Clamped.{saturatedPair, clampedIndex, clampedReading, clampedCount, clampedParsed};
 ghost use Rattle.parse.specs.Pairs.{bothOf, pairLine};
 use event::Event;
@@ -53,8 +53,8 @@ fn below(v: u16) -> i16
     0 - above(v)
 }
 
-fn reading_of(n: Number) -> Reading
-    ensures { λ r. ⌜ r ≡ clampedReading (readingOf n) ⌝ }
+fn spelled_reading(n: Number) -> Reading
+    ensures { λ r. ⌜ r ≡ clampedReading (spelledReading n) ⌝ }
 {
     match n {
         Number::Wrong => Reading::Missing,
@@ -109,10 +109,8 @@ fn pair_of(line: &[u8]) -> Pair
     if second == rest.len() {
         return Pair::Wrong;
     }
+    // A further tab in it makes it a wrong decimal.
     let last = &rest[second + 1..];
-    if text::width(last) != last.len() {
-        return Pair::Wrong;
-    }
     both(text::decimal(&rest[..second]), text::decimal(last))
 }
 
@@ -132,7 +130,7 @@ fn pair_event(letter: u8, i: Number, v: Number) -> Parsed
         }),
         b'T' => Parsed::Fine(Event::Temperature {
             zone: index,
-            reading: reading_of(v),
+            reading: spelled_reading(v),
         }),
         b'V' => Parsed::Fine(Event::Voltage {
             channel: index,
@@ -253,9 +251,9 @@ pub fn letter_of(line: &[u8]) -> u8
     0
 }
 
-// The event that a line says by its letter.
-pub fn event_of(letter: u8, line: &[u8]) -> Parsed
-    ensures { λ r. ⌜ r ≡ clampedParsed (eventOf letter (now (line .entry))) ⌝ }
+// The event that a line says by this letter.
+fn event_by(letter: u8, line: &[u8]) -> Parsed
+    ensures { λ r. ⌜ r ≡ clampedParsed (eventBy letter (now (line .entry))) ⌝ }
 {
     match letter {
         b'A' => pin_line(line),
@@ -265,4 +263,11 @@ pub fn event_of(letter: u8, line: &[u8]) -> Parsed
         b'X' => alone_line(line, Event::Reset),
         _ => pair_line(letter, line),
     }
+}
+
+// The event that a line says.
+pub fn event_of(line: &[u8]) -> Parsed
+    ensures { λ r. ⌜ r ≡ clampedParsed (eventOf (now (line .entry))) ⌝ }
+{
+    event_by(letter_of(line), line)
 }

@@ -1,9 +1,5 @@
 // The chip that stays with the caller: each function calls the one that takes the chip by value, and stores back what it gives.
-ghost use mathlib.Core.Path.{_≡_};
-ghost use Rattle.state.specs.PowerOn.{powerOn};
-ghost use Rattle.bus.specs.Dump.{dumpAnswer, dumpedInto};
-ghost use Rattle.event.specs.Event.{steppedChip};
-ghost use Rattle.line.specs.Line.{takenLine, bufferAfter};
+ghost use Rattle.port.specs.Port.{PowersOn, TakesEvent, TakesLine, Dumps};
 use bus::Dumped;
 use event::Answer;
 use event::Event;
@@ -12,16 +8,18 @@ use line::Session;
 use state::Chip;
 use state::Setup;
 
-// The chip at power-on from a setup.
-pub fn power_on(chip: &mut Chip, setup: Setup)
-    ensures { λ _. ⌜ now (chip .exit) ≡ powerOn setup ⌝ }
+// The chip at power-on from a setup, and 0; or the setup's refusal, and the chip as it was.
+pub fn power_on(chip: &mut Chip, setup: Setup) -> u8
+    ensures { λ r. ⌜ PowersOn (now (chip .entry)) setup r (now (chip .exit)) ⌝ }
 {
-    *chip = state::power_on(setup);
+    let done = state::power_again(*chip, setup);
+    *chip = done.chip;
+    done.refusal
 }
 
 // One event.
 pub fn take_event(chip: &mut Chip, event: Event) -> Answer
-    ensures { λ r. ⌜ (r ≡ steppedChip (now (chip .entry)) event .answer) × (now (chip .exit) ≡ steppedChip (now (chip .entry)) event .chip) ⌝ }
+    ensures { λ r. ⌜ TakesEvent (now (chip .entry)) event r (now (chip .exit)) ⌝ }
 {
     let done = event::step(*chip, event);
     *chip = done.chip;
@@ -30,7 +28,7 @@ pub fn take_event(chip: &mut Chip, event: Event) -> Answer
 
 // One line, with a lent output for its answer.
 pub fn take_line(session: &mut Session, line: &[u8], out: &mut [u8]) -> Reply
-    ensures { λ r. ⌜ (r ≡ takenLine (now (session .entry)) (now (line .entry)) (now (out .entry)) .reply) × (now (session .exit) ≡ takenLine (now (session .entry)) (now (line .entry)) (now (out .entry)) .session) × (now (out .exit) ≡ bufferAfter (now (session .entry)) (now (line .entry)) (now (out .entry))) ⌝ }
+    ensures { λ r. ⌜ TakesLine (now (session .entry)) (now (line .entry)) (now (out .entry)) r (now (session .exit)) (now (out .exit)) ⌝ }
 {
     let done = line::take_line(*session, line, out);
     *session = done.session;
@@ -39,7 +37,7 @@ pub fn take_line(session: &mut Session, line: &[u8], out: &mut [u8]) -> Reply
 
 // The register dump of a chip that is only looked at, into a lent buffer.
 pub fn dump(chip: &Chip, out: &mut [u8]) -> Dumped
-    ensures { λ r. ⌜ (r ≡ dumpAnswer (now (out .entry))) × (now (out .exit) ≡ dumpedInto (now (chip .entry)) (now (out .entry))) ⌝ }
+    ensures { λ r. ⌜ Dumps (now (chip .entry)) (now (out .entry)) r (now (out .exit)) ⌝ }
 {
     event::dump(*chip, out)
 }

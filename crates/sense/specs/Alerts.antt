@@ -34,14 +34,14 @@ pub record Alerts (file : List ℕ) : Type 0 where
   pub counted : ltb 0 (errorsStanding file) ≡ true
   pub alert : alertActive file ≡ not (isSet (getD file CONFIGURATION 0) GMSK)
 
-both-true : (t : Bool) → both t true ≡ t
-both-true true = refl
-both-true false = refl
+both-with-true : (t : Bool) → both t true ≡ t
+both-with-true true = refl
+both-with-true false = refl
 
 alerts : (file : List ℕ) → 0 < errorsStanding file → Alerts file
 unfolding alertActive
 alerts file l = let e = lt-ltb 0 (errorsStanding file) l in
-    record { counted = e; alert = rw e (both-true (not (isSet (getD file CONFIGURATION 0) GMSK))) }
+    record { counted = e; alert = rw e (both-with-true (not (isSet (getD file CONFIGURATION 0) GMSK))) }
 
 volt-counts : (file : List ℕ) (g k : ℕ) → g < 2 → k < 8 → T (isSet (getD file (B-ERROR-STATUS-2 + g) 0) (2 ^ k)) → 0 < errorsStanding file
 unfolding errorsStanding

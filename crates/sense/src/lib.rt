@@ -68,7 +68,8 @@ fn fan_limit(low: u8, high: u8) -> u16
     (low / 4) as u16 + high as u16 * 64
 }
 
-fn compare_volt(file: &mut [u8; 256], channel: u8, count: Count)
+// A taken voltage outside its limits sets its bit.
+fn mark_if_outside(file: &mut [u8; 256], channel: u8, count: Count)
     requires { ⌜ channel < 16 ⌝ }
     ensures { λ _. ⌜ now (file .exit) ≡ comparedVolt (now (file .entry)) channel count ⌝ }
 {
@@ -83,7 +84,8 @@ fn compare_volt(file: &mut [u8; 256], channel: u8, count: Count)
     }
 }
 
-fn compare_fan(file: &mut [u8; 256], fan: u8, count: Count)
+// A taken fan count above its limit sets its bit.
+fn mark_if_above(file: &mut [u8; 256], fan: u8, count: Count)
     requires { ⌜ fan < 4 ⌝ }
     ensures { λ _. ⌜ now (file .exit) ≡ comparedFan (now (file .entry)) fan count ⌝ }
 {
@@ -103,7 +105,7 @@ pub fn compare_voltage(file: &mut [u8; 256], channel: u8, count: Count)
     ensures { λ _. ⌜ now (file .exit) ≡ voltageFile (now (file .entry)) channel count ⌝ }
 {
     if channel < 16 {
-        compare_volt(file, channel, count);
+        mark_if_outside(file, channel, count);
     }
 }
 
@@ -112,7 +114,7 @@ pub fn compare_count(file: &mut [u8; 256], fan: u8, count: Count)
     ensures { λ _. ⌜ now (file .exit) ≡ fanFile (now (file .entry)) fan count ⌝ }
 {
     if fan < 4 {
-        compare_fan(file, fan, count);
+        mark_if_above(file, fan, count);
     }
 }
 

@@ -1,6 +1,4 @@
 // Runs many sessions of lines, one after the other: a line that begins with # is the title of the next, which starts from power-on.
-ghost use Prim.Native.Nat.{_≤_};
-ghost use lib.ListN.{length};
 use libc::STDIN_FILENO;
 use libc::STDOUT_FILENO;
 use line::Session;
@@ -8,8 +6,6 @@ use line::Session;
 const INPUT: usize = 32768;
 
 const ROOM: usize = 64;
-
-const LINE_FEED: u8 = 10;
 
 // A session, and the number of its next line.
 struct Run {
@@ -70,25 +66,11 @@ fn take(run: Run, line: &[u8]) -> Run {
     give(run, line)
 }
 
-// How many bytes stand before the first line feed.
-fn line_width(s: &[u8]) -> usize
-    ensures { λ r. ⌜ r ≤ length (now (s .entry)) ⌝ }
-{
-    let mut i = 0;
-    while i < s.len() {
-        if s[i] == LINE_FEED {
-            return i;
-        }
-        i += 1;
-    }
-    i
-}
-
 fn take_all(start: Run, s: &[u8]) {
     let mut run = start;
     let mut i = 0;
     while i < s.len() {
-        let e = i + line_width(&s[i..]);
+        let e = i + text::line_width(&s[i..]);
         run = take(run, &s[i..e]);
         i = e + 1;
     }

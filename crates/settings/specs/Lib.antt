@@ -1,3 +1,4 @@
+pub mod Places
 pub mod Settings
 pub mod Ranges
 pub mod Entries

@@ -4,12 +4,13 @@ use mathlib.Core.Bool.{true}
 use Prim.Native.Nat.{ℕ, _+_, _≤_, _<_}
 use native.Mathlib.Omega.{arith}
 use lib.Dec.{leb}
-use lib.ListN.{getD}
 use borrow.Author.Tests.{leb-true}
 use Rattle.laws.specs.Every.{every, every-at}
 use Rattle.text.specs.declared.Number.{Number}
 use Rattle.text.specs.declared.Number.the-variants.{Wrong, Dash, Plus, Minus}
-use Rattle.settings.specs.Settings.{mosts, belows, isWithin, plainOf}
+use Rattle.state.specs.Most.{LEVEL-MOST, DEGREES-MOST, OFFSET-MOST, HYSTERESIS-MOST, DUTY-MOST, BYTE-MOST}
+use Rattle.settings.specs.Places.{LEVEL, BASES, OFFSETS12, OFFSETS34, HYSTERESES, BOOSTS, BOOST-HYSTERESIS, BINDINGS, START-COUNTS, NUMBERS}
+use Rattle.settings.specs.Settings.{rangeOf, isWithin, plainOf}
 
 -- a number without its sign; 0 where it is none
 unfoldable pub sizeOf : Number → ℕ
@@ -26,66 +27,64 @@ plain-most Dash h = h
 plain-most (Plus v) h = h
 plain-most (Minus v) h = omega arith
 
--- no largest number is above 256
-pub mosts-small : (k : ℕ) → k < 59 → getD mosts k 0 ≤ 256
-unfolding every mosts
-mosts-small k l = leb-true (getD mosts k 0) 256 (every-at (λ k. leb (getD mosts k 0) 256) 59 k refl l)
+-- no number may be above 256
+pub most-small : (k : ℕ) → k < NUMBERS → rangeOf k .most ≤ DUTY-MOST
+unfolding every rangeOf
+most-small k l = leb-true (rangeOf k .most) DUTY-MOST (every-at (λ k. leb (rangeOf k .most) DUTY-MOST) NUMBERS k refl l)
 
--- and none is smaller than the largest below 0
-pub belows-small : (k : ℕ) → k < 59 → getD belows k 0 ≤ getD mosts k 0
-unfolding every mosts belows
-belows-small k l = leb-true (getD belows k 0) (getD mosts k 0) (every-at (λ k. leb (getD belows k 0) (getD mosts k 0)) 59 k refl l)
+-- and none may be further below 0 than above
+pub below-small : (k : ℕ) → k < NUMBERS → rangeOf k .below ≤ rangeOf k .most
+unfolding every rangeOf
+below-small k l =
+    leb-true (rangeOf k .below) (rangeOf k .most) (every-at (λ k. leb (rangeOf k .below) (rangeOf k .most)) NUMBERS k refl l)
 
-size-most : (k : ℕ) (n : Number) → k < 59 → isWithin k n ≡ true → sizeOf n ≤ getD mosts k 0
+-- a number in its range is no larger than the largest, whatever its sign
+size-most : (k : ℕ) (n : Number) → k < NUMBERS → isWithin (rangeOf k) n ≡ true → sizeOf n ≤ rangeOf k .most
 unfolding isWithin sizeOf
 size-most k Wrong l e = omega arith
 size-most k Dash l e = omega arith
-size-most k (Plus v) l e = leb-true v (getD mosts k 0) e
-size-most k (Minus v) l e = omega (arith, leb-true v (getD belows k 0) e, belows-small k l)
+size-most k (Plus v) l e = leb-true v (rangeOf k .most) e
+size-most k (Minus v) l e = omega (arith, leb-true v (rangeOf k .below) e, below-small k l)
 
 -- all numbers of the group that begins at `first` are at most `most`
 abbrev GroupMost : ℕ → ℕ → ℕ → Type 0
-GroupMost first count most = every count (λ k. leb (getD mosts (first + k) 0) most) ≡ true
+GroupMost first count most = every count (λ k. leb (rangeOf (first + k) .most) most) ≡ true
 
 -- document 01's ranges, without signs
 pub record Ranged (n : ℕ → Number) : Type 0 where
-  pub all : (k : ℕ) → k < 59 → sizeOf (n k) ≤ 256
-  pub level : sizeOf (n 0) ≤ 2
-  pub bases : (i : ℕ) → i < 4 → sizeOf (n (1 + i)) ≤ 127
-  pub offsets12 : (k : ℕ) → k < 12 → sizeOf (n (5 + k)) ≤ 15
-  pub offsets34 : (k : ℕ) → k < 12 → sizeOf (n (17 + k)) ≤ 15
-  pub hystereses : (i : ℕ) → i < 2 → sizeOf (n (29 + i)) ≤ 15
-  pub duties : (k : ℕ) → k < 13 → sizeOf (n (31 + k)) ≤ 256
-  pub boosts : (i : ℕ) → i < 6 → sizeOf (n (44 + i)) ≤ 127
-  pub boost-hysteresis : sizeOf (n 50) ≤ 15
-  pub bindings : (f : ℕ) → f < 2 → sizeOf (n (51 + f)) ≤ 255
-  pub overrides : (f : ℕ) → f < 2 → sizeOf (n (53 + f)) ≤ 256
-  pub start-duties : (f : ℕ) → f < 2 → sizeOf (n (55 + f)) ≤ 256
-  pub start-counts : (f : ℕ) → f < 2 → sizeOf (n (57 + f)) ≤ 255
+  pub all : (k : ℕ) → k < NUMBERS → sizeOf (n k) ≤ DUTY-MOST
+  pub level : sizeOf (n LEVEL) ≤ LEVEL-MOST
+  pub bases : (i : ℕ) → i < 4 → sizeOf (n (BASES + i)) ≤ DEGREES-MOST
+  pub offsets12 : (k : ℕ) → k < 12 → sizeOf (n (OFFSETS12 + k)) ≤ OFFSET-MOST
+  pub offsets34 : (k : ℕ) → k < 12 → sizeOf (n (OFFSETS34 + k)) ≤ OFFSET-MOST
+  pub hystereses : (i : ℕ) → i < 2 → sizeOf (n (HYSTERESES + i)) ≤ HYSTERESIS-MOST
+  pub boosts : (i : ℕ) → i < 6 → sizeOf (n (BOOSTS + i)) ≤ DEGREES-MOST
+  pub boost-hysteresis : sizeOf (n BOOST-HYSTERESIS) ≤ HYSTERESIS-MOST
+  pub bindings : (f : ℕ) → f < 2 → sizeOf (n (BINDINGS + f)) ≤ BYTE-MOST
+  pub start-counts : (f : ℕ) → f < 2 → sizeOf (n (START-COUNTS + f)) ≤ BYTE-MOST
 
-module _ (n : ℕ → Number) (w : every 59 (λ k. isWithin k (n k)) ≡ true) where
-  size-at : (k : ℕ) → k < 59 → sizeOf (n k) ≤ getD mosts k 0
-  size-at k l = size-most k (n k) l (every-at (λ k. isWithin k (n k)) 59 k w l)
+module _ (n : ℕ → Number) (w : every NUMBERS (λ k. isWithin (rangeOf k) (n k)) ≡ true) where
+  -- number k is no larger than its largest
+  size-at : (k : ℕ) → k < NUMBERS → sizeOf (n k) ≤ rangeOf k .most
+  size-at k l = size-most k (n k) l (every-at (λ k. isWithin (rangeOf k) (n k)) NUMBERS k w l)
 
-  group : (first count most : ℕ) → first + count ≤ 59 → GroupMost first count most → (k : ℕ) → k < count → sizeOf (n (first + k)) ≤ most
+  -- the numbers of a group are no larger than the group's largest
+  group : (first count most : ℕ) → first + count ≤ NUMBERS → GroupMost first count most → (k : ℕ) → k < count → sizeOf (n (first + k)) ≤ most
   group first count most p e k l =
-      omega (arith, size-at (first + k) (omega arith), leb-true (getD mosts (first + k) 0) most (every-at (λ k. leb (getD mosts (first + k) 0) most) count k e l))
+      omega (arith, size-at (first + k) (omega arith), leb-true (rangeOf (first + k) .most) most (every-at (λ k. leb (rangeOf (first + k) .most) most) count k e l))
 
   -- numbers that pass the test are in range
   pub in-range : Ranged n
-  unfolding every mosts
+  unfolding every rangeOf
   in-range = record {
-    all = λ k l. omega (arith, size-at k l, mosts-small k l);
-    level = size-at 0 (omega arith);
-    bases = group 1 4 127 (omega arith) refl;
-    offsets12 = group 5 12 15 (omega arith) refl;
-    offsets34 = group 17 12 15 (omega arith) refl;
-    hystereses = group 29 2 15 (omega arith) refl;
-    duties = group 31 13 256 (omega arith) refl;
-    boosts = group 44 6 127 (omega arith) refl;
-    boost-hysteresis = size-at 50 (omega arith);
-    bindings = group 51 2 255 (omega arith) refl;
-    overrides = group 53 2 256 (omega arith) refl;
-    start-duties = group 55 2 256 (omega arith) refl;
-    start-counts = group 57 2 255 (omega arith) refl;
+    all = λ k l. omega (arith, size-at k l, most-small k l);
+    level = size-at LEVEL (omega arith);
+    bases = group BASES 4 DEGREES-MOST (omega arith) refl;
+    offsets12 = group OFFSETS12 12 OFFSET-MOST (omega arith) refl;
+    offsets34 = group OFFSETS34 12 OFFSET-MOST (omega arith) refl;
+    hystereses = group HYSTERESES 2 HYSTERESIS-MOST (omega arith) refl;
+    boosts = group BOOSTS 6 DEGREES-MOST (omega arith) refl;
+    boost-hysteresis = size-at BOOST-HYSTERESIS (omega arith);
+    bindings = group BINDINGS 2 BYTE-MOST (omega arith) refl;
+    start-counts = group START-COUNTS 2 BYTE-MOST (omega arith) refl;
   }

@@ -1,24 +1,27 @@
 -- Document 01, "Setup": the 59 numbers of an S line. Numbers are exact here, however long they are. Assumes nothing.
 use Prim.Native.Nat.{ℕ, suc, _+_}
 use mathlib.Core.Bool.{Bool, true, false}
-use mathlib.Core.List.{List, [], _∷_, _++_}
-use lib.Dec.{eqb, leb}
+use mathlib.Core.List.{List}
+use lib.Dec.{eqb, leb, ltb}
 use lib.IntN.{ℤ, pos, negℤ}
-use lib.ListN.{length, getD, replicate}
+use lib.ListN.{length, getD}
 use Rattle.laws.specs.Pick.{pick, both}
 use Rattle.laws.specs.Every.{every}
 use Rattle.laws.specs.Tab.{tab}
 use Rattle.text.specs.declared.Number.{Number}
 use Rattle.text.specs.declared.Number.the-variants.{Wrong, Dash, Plus, Minus}
-use Rattle.text.specs.Fields.{fieldsOf, fieldAt}
+use Rattle.text.specs.Fields.{firstField, fieldsOf, fieldAt}
 use Rattle.text.specs.Number.{isSpelt, decimalOf}
 use Rattle.state.specs.declared.Setup.{Setup}
 use Rattle.state.specs.declared.ZoneBoost.{ZoneBoost}
 use Rattle.state.specs.declared.FanOverride.{FanOverride}
 use Rattle.state.specs.declared.Boost.the-variants as boost
 use Rattle.state.specs.declared.Override.the-variants as override
+use Rattle.state.specs.Most.{LEVEL-MOST, DEGREES-MOST, OFFSET-MOST, HYSTERESIS-MOST, DUTY-MOST, BYTE-MOST}
 use Rattle.state.specs.PowerOn.{defaultSetup}
+use Rattle.settings.specs.declared.Range.{Range}
 use Rattle.settings.specs.declared.Settings.{Settings}
+use Rattle.settings.specs.Places.{LEVEL, BASES, OFFSETS12, OFFSETS34, HYSTERESES, DUTIES, BOOSTS, BOOST-HYSTERESIS, BINDINGS, OVERRIDES, START-DUTIES, START-COUNTS, NUMBERS}
 
 -- number k of an S line, counted from 0: the field behind the letter and k others
 unfoldable pub settingAt : List ℕ → ℕ → Number
@@ -26,83 +29,111 @@ settingAt s k = decimalOf (fieldAt s (suc k))
 
 -- ---- ranges
 
+-- "0 to" the largest
+abbrev pub upTo : ℕ → Range
+upTo most = record { most = most; below = 0; none = false }
+
+-- "-127 to 127"
+abbrev pub degrees : Range
+degrees = record { most = DEGREES-MOST; below = DEGREES-MOST; none = false }
+
+-- "or none"
+abbrev pub orNone : Range → Range
+orNone r = record { most = r .most; below = r .below; none = true }
+
 -- "pin level; 4 bases, -127 to 127 degrees; 12 offsets for tables 1 and 2, then 12 for 3 and 4, 0 to 15; 2 hystereses, 0 to 15; 13 duties, 0
 -- to 256; 6 boosts, -127 to 127 or none; boost hysteresis 0 to 15 degrees; 2 bindings, 0 to 255; 2 overrides, 0 to 256 or none; 2 start
--- duties, 0 to 256; 2 start counts, 0 to 255": the largest of each
-unfoldable pub mosts : List ℕ
-mosts =
-    (2 ∷ []) ++ (replicate 4 127 ++ (replicate 24 15 ++ (replicate 2 15 ++ (replicate 13 256 ++ (replicate 6 127 ++ (replicate 1 15 ++ (replicate 2 255 ++ (replicate 2 256 ++ (replicate 2 256 ++ replicate 2 255)))))))))
+-- duties, 0 to 256; 2 start counts, 0 to 255": what number k may be
+unfoldable pub rangeOf : ℕ → Range
+rangeOf k =
+    pick (ltb k BASES) (upTo LEVEL-MOST)
+    (pick (ltb k OFFSETS12) degrees
+    (pick (ltb k HYSTERESES) (upTo OFFSET-MOST)
+    (pick (ltb k DUTIES) (upTo HYSTERESIS-MOST)
+    (pick (ltb k BOOSTS) (upTo DUTY-MOST)
+    (pick (ltb k BOOST-HYSTERESIS) (orNone degrees)
+    (pick (ltb k BINDINGS) (upTo HYSTERESIS-MOST)
+    (pick (ltb k OVERRIDES) (upTo BYTE-MOST)
+    (pick (ltb k START-DUTIES) (orNone (upTo DUTY-MOST))
+    (pick (ltb k START-COUNTS) (upTo DUTY-MOST)
+    (upTo BYTE-MOST))))))))))
 
--- the largest below 0, without its sign
-unfoldable pub belows : List ℕ
-belows = replicate 1 0 ++ (replicate 4 127 ++ (replicate 39 0 ++ (replicate 6 127 ++ replicate 9 0)))
-
--- whether "-" may stand, for none
-unfoldable pub dashes : List Bool
-dashes = replicate 44 false ++ (replicate 6 true ++ (replicate 3 false ++ (replicate 2 true ++ replicate 4 false)))
-
-unfoldable pub isWithin : ℕ → Number → Bool
-isWithin k Wrong = false
-isWithin k Dash = getD dashes k false
-isWithin k (Plus v) = leb v (getD mosts k 0)
-isWithin k (Minus v) = leb v (getD belows k 0)
+-- a number below 0 is held to its range without its sign
+unfoldable pub isWithin : Range → Number → Bool
+isWithin r Wrong = false
+isWithin r Dash = r .none
+isWithin r (Plus v) = leb v (r .most)
+isWithin r (Minus v) = leb v (r .below)
 
 -- ---- the setup that the numbers make
 
+-- a number that is not below 0; 0 where it is none
 unfoldable pub plainOf : Number → ℕ
 plainOf Wrong = 0
 plainOf Dash = 0
 plainOf (Plus v) = v
 plainOf (Minus v) = 0
 
+-- a number with its sign; 0 where it is none
 unfoldable pub signedOf : Number → ℤ
 signedOf Wrong = pos 0
 signedOf Dash = pos 0
 signedOf (Plus v) = pos v
 signedOf (Minus v) = negℤ (pos v)
 
-unfoldable pub boostOf : Number → ZoneBoost
-boostOf Wrong = record { boost = boost.At (signedOf Wrong) }
-boostOf Dash = record { boost = boost.Off }
-boostOf (Plus v) = record { boost = boost.At (signedOf (Plus v)) }
-boostOf (Minus v) = record { boost = boost.At (signedOf (Minus v)) }
+-- "-" for none
+unfoldable pub noneOr : {A : Type 0} → A → A → Number → A
+noneOr none some Wrong = some
+noneOr none some Dash = none
+noneOr none some (Plus v) = some
+noneOr none some (Minus v) = some
 
-unfoldable pub overrideOf : Number → FanOverride
-overrideOf Wrong = record { duty = override.At (plainOf Wrong) }
-overrideOf Dash = record { duty = override.Off }
-overrideOf (Plus v) = record { duty = override.At (plainOf (Plus v)) }
-overrideOf (Minus v) = record { duty = override.At (plainOf (Minus v)) }
+-- "6 boosts, -127 to 127 or none"; what a number is as degrees is left open
+abbrev pub boostOf : (Number → ℤ) → Number → ZoneBoost
+boostOf signed n = record { boost = noneOr boost.Off (boost.At (signed n)) n }
 
-unfoldable pub setupBy : (ℕ → Number) → Setup
-setupBy n = record {
-  level = plainOf (n 0);
-  bases = tab (λ i. signedOf (n (1 + i))) 4;
-  offsets12 = tab (λ k. plainOf (n (5 + k))) 12;
-  offsets34 = tab (λ k. plainOf (n (17 + k))) 12;
-  hystereses = tab (λ i. plainOf (n (29 + i))) 2;
-  duties = tab (λ k. plainOf (n (31 + k))) 13;
-  boosts = tab (λ i. boostOf (n (44 + i))) 6;
-  «boost_hysteresis» = plainOf (n 50);
-  bindings = tab (λ f. plainOf (n (51 + f))) 2;
-  overrides = tab (λ f. overrideOf (n (53 + f))) 2;
-  «start_duties» = tab (λ f. plainOf (n (55 + f))) 2;
-  «start_counts» = tab (λ f. plainOf (n (57 + f))) 2;
+-- "2 overrides, 0 to 256 or none"
+abbrev pub overrideOf : Number → FanOverride
+overrideOf n = record { duty = noneOr override.Off (override.At (plainOf n)) n }
+
+-- by the numbers n, each in its place; what a number is as a byte and as degrees is left open
+unfoldable pub setupBy : (Number → ℕ) → (Number → ℤ) → (ℕ → Number) → Setup
+setupBy byte signed n = record {
+  level = byte (n LEVEL);
+  bases = tab (λ i. signed (n (BASES + i))) 4;
+  offsets12 = tab (λ k. byte (n (OFFSETS12 + k))) 12;
+  offsets34 = tab (λ k. byte (n (OFFSETS34 + k))) 12;
+  hystereses = tab (λ i. byte (n (HYSTERESES + i))) 2;
+  duties = tab (λ k. plainOf (n (DUTIES + k))) 13;
+  boosts = tab (λ i. boostOf signed (n (BOOSTS + i))) 6;
+  «boost_hysteresis» = byte (n BOOST-HYSTERESIS);
+  bindings = tab (λ f. byte (n (BINDINGS + f))) 2;
+  overrides = tab (λ f. overrideOf (n (OVERRIDES + f))) 2;
+  «start_duties» = tab (λ f. plainOf (n (START-DUTIES + f))) 2;
+  «start_counts» = tab (λ f. byte (n (START-COUNTS + f))) 2;
 }
 
--- "duties, that never fall": duty k + 1 is not below duty k; the duties are numbers 31 to 43
+-- "duties, that never fall": duty k + 1 is not below duty k
 unfoldable pub risesBy : (ℕ → Number) → ℕ → Bool
-risesBy n k = leb (plainOf (n (31 + k))) (plainOf (n (32 + k)))
+risesBy n k = leb (plainOf (n (DUTIES + k))) (plainOf (n (DUTIES + k + 1)))
 
 -- ---- an S line by itself
 
 unfoldable pub refusedSettings : ℕ → Settings
 refusedSettings refusal = record { refusal = refusal; setup = defaultSetup }
 
--- refusal 4: "field count or spelling wrong"; refusal 1: "a setup number out of range, or duties that fall"
+-- "Letter first", which is S, 83, and "59 numbers"
+unfoldable pub isSetup : List ℕ → Bool
+isSetup s =
+    both (eqb (length (firstField s)) 1) (both (eqb (getD s 0 0) 83) (eqb (length (fieldsOf s)) (suc NUMBERS)))
+
+-- refusal 4: "unknown letter, field count or spelling wrong"; refusal 1: "a setup number out of range, or duties that fall"
 unfoldable pub settingsOf : List ℕ → Settings
 settingsOf s =
-    pick (both (eqb (length (fieldsOf s)) 60) (every 59 (λ k. isSpelt (settingAt s k))))
-    (pick (both (every 59 (λ k. isWithin k (settingAt s k))) (every 12 (risesBy (settingAt s))))
-    (record { refusal = 0; setup = setupBy (settingAt s) })
+    pick (isSetup s)
+    (pick (every NUMBERS (λ k. isSpelt (settingAt s k)))
+    (pick (both (every NUMBERS (λ k. isWithin (rangeOf k) (settingAt s k))) (every 12 (risesBy (settingAt s))))
+    (record { refusal = 0; setup = setupBy plainOf signedOf (settingAt s) })
     (refusedSettings 1))
+    (refusedSettings 4))
     (refusedSettings 4)

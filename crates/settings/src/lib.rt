@@ -6,18 +6,34 @@ ghost use Rattle.laws.specs.Tab.{tab};
 ghost use Rattle.laws.specs.Every.{every};
 ghost use Rattle.text.specs.Fields.{fieldAt};
 ghost use Rattle.text.specs.Number.{decimalOf, saturated, isSpelt};
-ghost use Rattle.settings.specs.Settings.{isWithin, plainOf, refusedSettings, settingsOf};
-ghost use Rattle.settings.specs.Entries.{entriesOf, entryIn, risesIn, byteOf, degreesOf, boostFrom, overrideFrom, setupFrom};
+ghost use Rattle.state.specs.Most.{DUTY-MOST};
+ghost use Rattle.settings.specs.Places.{BASES, BOOSTS, OVERRIDES, NUMBERS};
+ghost use Rattle.settings.specs.Settings.{upTo, degrees, orNone, rangeOf, isWithin, plainOf, boostOf, overrideOf, setupBy, risesBy, refusedSettings, isSetup, settingsOf};
+ghost use Rattle.settings.specs.Entries.{entriesOf, entryIn, heldByte, heldDegrees, settingsFrom};
 use state::Boost;
 use state::FanOverride;
 use state::Override;
+use state::SETUP_OUT_OF_RANGE;
 use state::Setup;
 use state::ZoneBoost;
+use state::most;
 use text::Number;
+
+mod places;
 
 // One of the 59 numbers, as it is spelled.
 pub struct Entry {
     pub number: Number,
+}
+
+// What a number may be.
+pub struct Range {
+    // The largest.
+    pub most: u16,
+    // The largest below 0, without its sign.
+    pub below: u16,
+    // Whether it may be "-".
+    pub none: bool,
 }
 
 // The refusal of an S line by itself, or 0, and its setup; of a refused line that without a setup.
@@ -26,198 +42,8 @@ pub struct Settings {
     pub setup: Setup,
 }
 
-const SPELLING: u8 = 4;
-
-const OUT_OF_RANGE: u8 = 1;
-
-// The largest number.
-const MOST: [u16; 59] = [
-    2, // level
-    127, // base 1
-    127, // base 2
-    127, // base 3
-    127, // base 4
-    15, // tables 1 and 2, offset 1
-    15, // tables 1 and 2, offset 2
-    15, // tables 1 and 2, offset 3
-    15, // tables 1 and 2, offset 4
-    15, // tables 1 and 2, offset 5
-    15, // tables 1 and 2, offset 6
-    15, // tables 1 and 2, offset 7
-    15, // tables 1 and 2, offset 8
-    15, // tables 1 and 2, offset 9
-    15, // tables 1 and 2, offset 10
-    15, // tables 1 and 2, offset 11
-    15, // tables 1 and 2, offset 12
-    15, // tables 3 and 4, offset 1
-    15, // tables 3 and 4, offset 2
-    15, // tables 3 and 4, offset 3
-    15, // tables 3 and 4, offset 4
-    15, // tables 3 and 4, offset 5
-    15, // tables 3 and 4, offset 6
-    15, // tables 3 and 4, offset 7
-    15, // tables 3 and 4, offset 8
-    15, // tables 3 and 4, offset 9
-    15, // tables 3 and 4, offset 10
-    15, // tables 3 and 4, offset 11
-    15, // tables 3 and 4, offset 12
-    15, // hysteresis of 1 and 2
-    15, // hysteresis of 3 and 4
-    256, // duty of step 0
-    256, // duty of step 1
-    256, // duty of step 2
-    256, // duty of step 3
-    256, // duty of step 4
-    256, // duty of step 5
-    256, // duty of step 6
-    256, // duty of step 7
-    256, // duty of step 8
-    256, // duty of step 9
-    256, // duty of step 10
-    256, // duty of step 11
-    256, // duty of step 12
-    127, // boost 1a
-    127, // boost 1b
-    127, // boost 2a
-    127, // boost 2b
-    127, // boost 3
-    127, // boost 4
-    15, // boost hysteresis
-    255, // binding 1
-    255, // binding 2
-    256, // override 1
-    256, // override 2
-    256, // start duty 1
-    256, // start duty 2
-    255, // start count 1
-    255, // start count 2
-];
-
-// The largest number below 0, without its sign.
-const BELOW: [u16; 59] = [
-    0, // level
-    127, // base 1
-    127, // base 2
-    127, // base 3
-    127, // base 4
-    0, // tables 1 and 2, offset 1
-    0, // tables 1 and 2, offset 2
-    0, // tables 1 and 2, offset 3
-    0, // tables 1 and 2, offset 4
-    0, // tables 1 and 2, offset 5
-    0, // tables 1 and 2, offset 6
-    0, // tables 1 and 2, offset 7
-    0, // tables 1 and 2, offset 8
-    0, // tables 1 and 2, offset 9
-    0, // tables 1 and 2, offset 10
-    0, // tables 1 and 2, offset 11
-    0, // tables 1 and 2, offset 12
-    0, // tables 3 and 4, offset 1
-    0, // tables 3 and 4, offset 2
-    0, // tables 3 and 4, offset 3
-    0, // tables 3 and 4, offset 4
-    0, // tables 3 and 4, offset 5
-    0, // tables 3 and 4, offset 6
-    0, // tables 3 and 4, offset 7
-    0, // tables 3 and 4, offset 8
-    0, // tables 3 and 4, offset 9
-    0, // tables 3 and 4, offset 10
-    0, // tables 3 and 4, offset 11
-    0, // tables 3 and 4, offset 12
-    0, // hysteresis of 1 and 2
-    0, // hysteresis of 3 and 4
-    0, // duty of step 0
-    0, // duty of step 1
-    0, // duty of step 2
-    0, // duty of step 3
-    0, // duty of step 4
-    0, // duty of step 5
-    0, // duty of step 6
-    0, // duty of step 7
-    0, // duty of step 8
-    0, // duty of step 9
-    0, // duty of step 10
-    0, // duty of step 11
-    0, // duty of step 12
-    127, // boost 1a
-    127, // boost 1b
-    127, // boost 2a
-    127, // boost 2b
-    127, // boost 3
-    127, // boost 4
-    0, // boost hysteresis
-    0, // binding 1
-    0, // binding 2
-    0, // override 1
-    0, // override 2
-    0, // start duty 1
-    0, // start duty 2
-    0, // start count 1
-    0, // start count 2
-];
-
-// Whether it may be "-".
-const DASH: [bool; 59] = [
-    false, // level
-    false, // base 1
-    false, // base 2
-    false, // base 3
-    false, // base 4
-    false, // tables 1 and 2, offset 1
-    false, // tables 1 and 2, offset 2
-    false, // tables 1 and 2, offset 3
-    false, // tables 1 and 2, offset 4
-    false, // tables 1 and 2, offset 5
-    false, // tables 1 and 2, offset 6
-    false, // tables 1 and 2, offset 7
-    false, // tables 1 and 2, offset 8
-    false, // tables 1 and 2, offset 9
-    false, // tables 1 and 2, offset 10
-    false, // tables 1 and 2, offset 11
-    false, // tables 1 and 2, offset 12
-    false, // tables 3 and 4, offset 1
-    false, // tables 3 and 4, offset 2
-    false, // tables 3 and 4, offset 3
-    false, // tables 3 and 4, offset 4
-    false, // tables 3 and 4, offset 5
-    false, // tables 3 and 4, offset 6
-    false, // tables 3 and 4, offset 7
-    false, // tables 3 and 4, offset 8
-    false, // tables 3 and 4, offset 9
-    false, // tables 3 and 4, offset 10
-    false, // tables 3 and 4, offset 11
-    false, // tables 3 and 4, offset 12
-    false, // hysteresis of 1 and 2
-    false, // hysteresis of 3 and 4
-    false, // duty of step 0
-    false, // duty of step 1
-    false, // duty of step 2
-    false, // duty of step 3
-    false, // duty of step 4
-    false, // duty of step 5
-    false, // duty of step 6
-    false, // duty of step 7
-    false, // duty of step 8
-    false, // duty of step 9
-    false, // duty of step 10
-    false, // duty of step 11
-    false, // duty of step 12
-    true, // boost 1a
-    true, // boost 1b
-    true, // boost 2a
-    true, // boost 2b
-    true, // boost 3
-    true, // boost 4
-    false, // boost hysteresis
-    false, // binding 1
-    false, // binding 2
-    true, // override 1
-    true, // override 2
-    false, // start duty 1
-    false, // start duty 2
-    false, // start count 1
-    false, // start count 2
-];
+// The refusal of a wrong letter, field count or spelling.
+pub const SPELLING: u8 = 4;
 
 // ---- the numbers as they are spelled
 
@@ -245,16 +71,16 @@ fn number_from(line: &[u8], at: usize) -> Number
 }
 
 // The 59 numbers behind the letter, in one walk along the line.
-fn entries_of(line: &[u8]) -> [Entry; 59]
+fn entries_of(line: &[u8]) -> [Entry; places::NUMBERS]
     ensures { λ r. ⌜ r ≡ entriesOf (now (line .entry)) ⌝ }
 {
     let blank = Entry {
         number: Number::Wrong,
     };
-    let mut entries = [blank; 59];
+    let mut entries = [blank; places::NUMBERS];
     let mut at = next_field(line, 0);
     let mut k: usize = 0;
-    while k < 59 {
+    while k < places::NUMBERS {
         let entry = Entry {
             number: number_from(line, at),
         };
@@ -265,34 +91,85 @@ fn entries_of(line: &[u8]) -> [Entry; 59]
     entries
 }
 
-fn number_in(entries: [Entry; 59], k: usize) -> Number
-    requires { ⌜ k < 59 ⌝ }
-    ensures { λ r. ⌜ r ≡ entryIn entries k ⌝ }
-{
-    let entry = entries[k];
-    entry.number
-}
-
 // ---- spelling, ranges, duties that never fall
 
-fn is_within(k: usize, n: Number) -> bool
-    requires { ⌜ k < 59 ⌝ }
-    ensures { λ r. ⌜ r ≡ isWithin k n ⌝ }
+// 0 to the largest.
+fn up_to(most: u8) -> Range
+    ensures { λ r. ⌜ r ≡ upTo most ⌝ }
 {
-    match n {
-        Number::Wrong => false,
-        Number::Dash => DASH[k],
-        Number::Plus(v) => v <= MOST[k],
-        Number::Minus(v) => v <= BELOW[k],
+    Range {
+        most: most as u16,
+        below: 0,
+        none: false,
     }
 }
 
-fn all_spelt(entries: [Entry; 59]) -> bool
-    ensures { λ r. ⌜ r ≡ every 59 (λ k. isSpelt (entryIn entries k)) ⌝ }
+fn duty() -> Range
+    ensures { λ r. ⌜ r ≡ upTo DUTY-MOST ⌝ }
+{
+    Range {
+        most: most::DUTY,
+        below: 0,
+        none: false,
+    }
+}
+
+fn degrees() -> Range
+    ensures { λ r. ⌜ r ≡ degrees ⌝ }
+{
+    Range {
+        most: most::DEGREES as u16,
+        below: most::DEGREES as u16,
+        none: false,
+    }
+}
+
+fn or_none(range: Range) -> Range
+    ensures { λ r. ⌜ r ≡ orNone range ⌝ }
+{
+    let mut next = range;
+    next.none = true;
+    next
+}
+
+// What number k may be.
+fn range_of(k: usize) -> Range
+    ensures { λ r. ⌜ r ≡ rangeOf k ⌝ }
+{
+    match k {
+        places::LEVEL..places::BASES => up_to(most::LEVEL),
+        places::BASES..places::OFFSETS12 => degrees(),
+        places::OFFSETS12..places::HYSTERESES => up_to(most::OFFSET),
+        places::HYSTERESES..places::DUTIES => up_to(most::HYSTERESIS),
+        places::DUTIES..places::BOOSTS => duty(),
+        places::BOOSTS..places::BOOST_HYSTERESIS => or_none(degrees()),
+        places::BOOST_HYSTERESIS..places::BINDINGS => up_to(most::HYSTERESIS),
+        places::BINDINGS..places::OVERRIDES => up_to(most::BYTE),
+        places::OVERRIDES..places::START_DUTIES => or_none(duty()),
+        places::START_DUTIES..places::START_COUNTS => duty(),
+        places::START_COUNTS.. => up_to(most::BYTE),
+    }
+}
+
+fn is_within(range: Range, n: Number) -> bool
+    ensures { λ r. ⌜ r ≡ isWithin range n ⌝ }
+{
+    match n {
+        Number::Wrong => false,
+        Number::Dash => range.none,
+        Number::Plus(v) => v <= range.most,
+        Number::Minus(v) => v <= range.below,
+    }
+}
+
+fn all_spelt(entries: [Entry; places::NUMBERS]) -> bool
+    ensures { λ r. ⌜ r ≡ every NUMBERS (λ k. isSpelt (entryIn entries k)) ⌝ }
 {
     let mut k: usize = 0;
-    while k < 59 {
-        if text::is_spelt(number_in(entries, k)) {
+    while k < places::NUMBERS {
+        let entry = entries[k];
+        let number = entry.number;
+        if text::is_spelt(number) {
             k += 1;
         } else {
             return false;
@@ -301,12 +178,14 @@ fn all_spelt(entries: [Entry; 59]) -> bool
     true
 }
 
-fn all_within(entries: [Entry; 59]) -> bool
-    ensures { λ r. ⌜ r ≡ every 59 (λ k. isWithin k (entryIn entries k)) ⌝ }
+fn all_within(entries: [Entry; places::NUMBERS]) -> bool
+    ensures { λ r. ⌜ r ≡ every NUMBERS (λ k. isWithin (rangeOf k) (entryIn entries k)) ⌝ }
 {
     let mut k: usize = 0;
-    while k < 59 {
-        if is_within(k, number_in(entries, k)) {
+    while k < places::NUMBERS {
+        let entry = entries[k];
+        let number = entry.number;
+        if is_within(range_of(k), number) {
             k += 1;
         } else {
             return false;
@@ -328,15 +207,19 @@ fn word_of(n: Number) -> u16
 }
 
 // Whether duty k + 1 is not below duty k.
-fn rises_in(entries: [Entry; 59], k: usize) -> bool
+fn rises_in(entries: [Entry; places::NUMBERS], k: usize) -> bool
     requires { ⌜ k < 12 ⌝ }
-    ensures { λ r. ⌜ r ≡ risesIn entries k ⌝ }
+    ensures { λ r. ⌜ r ≡ risesBy (entryIn entries) k ⌝ }
 {
-    word_of(number_in(entries, 31 + k)) <= word_of(number_in(entries, 32 + k))
+    let lower = entries[places::DUTIES + k];
+    let upper = entries[places::DUTIES + k + 1];
+    let least = lower.number;
+    let most = upper.number;
+    word_of(least) <= word_of(most)
 }
 
-fn all_rise(entries: [Entry; 59]) -> bool
-    ensures { λ r. ⌜ r ≡ every 12 (risesIn entries) ⌝ }
+fn all_rise(entries: [Entry; places::NUMBERS]) -> bool
+    ensures { λ r. ⌜ r ≡ every 12 (risesBy (entryIn entries)) ⌝ }
 {
     let mut k: usize = 0;
     while k < 12 {
@@ -351,14 +234,14 @@ fn all_rise(entries: [Entry; 59]) -> bool
 
 // ---- the setup
 
-fn byte_of(n: Number) -> u8
-    ensures { λ r. ⌜ r ≡ byteOf n ⌝ }
+fn held_byte(n: Number) -> u8
+    ensures { λ r. ⌜ r ≡ heldByte n ⌝ }
 {
     (word_of(n) % 256) as u8
 }
 
-fn degrees_of(n: Number) -> i8
-    ensures { λ r. ⌜ r ≡ degreesOf n ⌝ }
+fn held_degrees(n: Number) -> i8
+    ensures { λ r. ⌜ r ≡ heldDegrees n ⌝ }
 {
     match n {
         Number::Wrong => 0,
@@ -369,18 +252,18 @@ fn degrees_of(n: Number) -> i8
 }
 
 fn boost_from(n: Number) -> ZoneBoost
-    ensures { λ r. ⌜ r ≡ boostFrom n ⌝ }
+    ensures { λ r. ⌜ r ≡ boostOf heldDegrees n ⌝ }
 {
     let Number::Dash = n else {
         return ZoneBoost {
-            boost: Boost::At(degrees_of(n)),
+            boost: Boost::At(held_degrees(n)),
         };
     };
     ZoneBoost { boost: Boost::Off }
 }
 
 fn override_from(n: Number) -> FanOverride
-    ensures { λ r. ⌜ r ≡ overrideFrom n ⌝ }
+    ensures { λ r. ⌜ r ≡ overrideOf n ⌝ }
 {
     let Number::Dash = n else {
         return FanOverride {
@@ -392,100 +275,108 @@ fn override_from(n: Number) -> FanOverride
     }
 }
 
-fn bases_from(entries: [Entry; 59]) -> [i8; 4]
-    ensures { λ r. ⌜ r ≡ tab (λ i. degreesOf (entryIn entries (1 + i))) 4 ⌝ }
+// The numbers from the first on, as many as bytes are lent.
+fn fill_bytes(entries: [Entry; places::NUMBERS], first: usize, bytes: &mut [u8])
+    requires { ⌜ first + length (now bytes) ≤ NUMBERS ⌝ }
+    ensures { λ r. ⌜ now (bytes .exit) ≡ tab (λ k. heldByte (entryIn entries (first + k))) (length (now (bytes .entry))) ⌝ }
 {
-    let a = degrees_of(number_in(entries, 1));
-    let b = degrees_of(number_in(entries, 2));
-    let c = degrees_of(number_in(entries, 3));
-    let d = degrees_of(number_in(entries, 4));
-    [a, b, c, d]
-}
-
-fn offsets_from(entries: [Entry; 59], first: usize) -> [u8; 12]
-    requires { ⌜ first < 48 ⌝ }
-    ensures { λ r. ⌜ r ≡ tab (λ k. byteOf (entryIn entries (first + k))) 12 ⌝ }
-{
-    let mut offsets = [0u8; 12];
     let mut k: usize = 0;
-    while k < 12 {
-        offsets[k] = byte_of(number_in(entries, first + k));
+    while k < bytes.len() {
+        let entry = entries[first + k];
+        let number = entry.number;
+        bytes[k] = held_byte(number);
         k += 1;
     }
-    offsets
 }
 
-fn duties_from(entries: [Entry; 59]) -> [u16; 13]
-    ensures { λ r. ⌜ r ≡ tab (λ k. plainOf (entryIn entries (31 + k))) 13 ⌝ }
+fn fill_words(entries: [Entry; places::NUMBERS], first: usize, words: &mut [u16])
+    requires { ⌜ first + length (now words) ≤ NUMBERS ⌝ }
+    ensures { λ r. ⌜ now (words .exit) ≡ tab (λ k. plainOf (entryIn entries (first + k))) (length (now (words .entry))) ⌝ }
 {
-    let mut duties = [0u16; 13];
     let mut k: usize = 0;
-    while k < 13 {
-        duties[k] = word_of(number_in(entries, 31 + k));
+    while k < words.len() {
+        let entry = entries[first + k];
+        let number = entry.number;
+        words[k] = word_of(number);
         k += 1;
     }
-    duties
 }
 
-fn boosts_from(entries: [Entry; 59]) -> [ZoneBoost; 6]
-    ensures { λ r. ⌜ r ≡ tab (λ i. boostFrom (entryIn entries (44 + i))) 6 ⌝ }
+fn bases_from(entries: [Entry; places::NUMBERS]) -> [i8; 4]
+    ensures { λ r. ⌜ r ≡ tab (λ i. heldDegrees (entryIn entries (BASES + i))) 4 ⌝ }
 {
-    let a = boost_from(number_in(entries, 44));
-    let b = boost_from(number_in(entries, 45));
-    let c = boost_from(number_in(entries, 46));
-    let d = boost_from(number_in(entries, 47));
-    let e = boost_from(number_in(entries, 48));
-    let f = boost_from(number_in(entries, 49));
-    [a, b, c, d, e, f]
+    let mut bases = [0i8; 4];
+    let mut k: usize = 0;
+    while k < 4 {
+        let entry = entries[places::BASES + k];
+        let number = entry.number;
+        bases[k] = held_degrees(number);
+        k += 1;
+    }
+    bases
 }
 
-fn two_bytes(entries: [Entry; 59], first: usize) -> [u8; 2]
-    requires { ⌜ first < 58 ⌝ }
-    ensures { λ r. ⌜ r ≡ tab (λ i. byteOf (entryIn entries (first + i))) 2 ⌝ }
+fn boosts_from(entries: [Entry; places::NUMBERS]) -> [ZoneBoost; 6]
+    ensures { λ r. ⌜ r ≡ tab (λ i. boostOf heldDegrees (entryIn entries (BOOSTS + i))) 6 ⌝ }
 {
-    let a = byte_of(number_in(entries, first));
-    let b = byte_of(number_in(entries, first + 1));
-    [a, b]
+    let off = ZoneBoost { boost: Boost::Off };
+    let mut boosts = [off; 6];
+    let mut k: usize = 0;
+    while k < 6 {
+        let entry = entries[places::BOOSTS + k];
+        let number = entry.number;
+        let boost = boost_from(number);
+        boosts[k] = boost;
+        k += 1;
+    }
+    boosts
 }
 
-fn start_duties_from(entries: [Entry; 59]) -> [u16; 2]
-    ensures { λ r. ⌜ r ≡ tab (λ f. plainOf (entryIn entries (55 + f))) 2 ⌝ }
+fn overrides_from(entries: [Entry; places::NUMBERS]) -> [FanOverride; 2]
+    ensures { λ r. ⌜ r ≡ tab (λ f. overrideOf (entryIn entries (OVERRIDES + f))) 2 ⌝ }
 {
-    let a = word_of(number_in(entries, 55));
-    let b = word_of(number_in(entries, 56));
-    [a, b]
+    let first = entries[places::OVERRIDES];
+    let second = entries[places::OVERRIDES + 1];
+    let number1 = first.number;
+    let number2 = second.number;
+    let override1 = override_from(number1);
+    let override2 = override_from(number2);
+    [override1, override2]
 }
 
-fn overrides_from(entries: [Entry; 59]) -> [FanOverride; 2]
-    ensures { λ r. ⌜ r ≡ tab (λ f. overrideFrom (entryIn entries (53 + f))) 2 ⌝ }
+fn setup_from(entries: [Entry; places::NUMBERS]) -> Setup
+    ensures { λ r. ⌜ r ≡ setupBy heldByte heldDegrees (entryIn entries) ⌝ }
 {
-    let a = override_from(number_in(entries, 53));
-    let b = override_from(number_in(entries, 54));
-    [a, b]
-}
-
-fn setup_from(entries: [Entry; 59]) -> Setup
-    ensures { λ r. ⌜ r ≡ setupFrom entries ⌝ }
-{
+    let first = entries[places::LEVEL];
+    let level = first.number;
+    let after_boosts = entries[places::BOOST_HYSTERESIS];
+    let boost_hysteresis = after_boosts.number;
     let bases = bases_from(entries);
-    let offsets12 = offsets_from(entries, 5);
-    let offsets34 = offsets_from(entries, 17);
-    let hystereses = two_bytes(entries, 29);
-    let duties = duties_from(entries);
+    let mut offsets12 = [0u8; 12];
+    fill_bytes(entries, places::OFFSETS12, &mut offsets12);
+    let mut offsets34 = [0u8; 12];
+    fill_bytes(entries, places::OFFSETS34, &mut offsets34);
+    let mut hystereses = [0u8; 2];
+    fill_bytes(entries, places::HYSTERESES, &mut hystereses);
+    let mut duties = [0u16; 13];
+    fill_words(entries, places::DUTIES, &mut duties);
     let boosts = boosts_from(entries);
-    let bindings = two_bytes(entries, 51);
+    let mut bindings = [0u8; 2];
+    fill_bytes(entries, places::BINDINGS, &mut bindings);
     let overrides = overrides_from(entries);
-    let start_duties = start_duties_from(entries);
-    let start_counts = two_bytes(entries, 57);
+    let mut start_duties = [0u16; 2];
+    fill_words(entries, places::START_DUTIES, &mut start_duties);
+    let mut start_counts = [0u8; 2];
+    fill_bytes(entries, places::START_COUNTS, &mut start_counts);
     Setup {
-        level: byte_of(number_in(entries, 0)),
+        level: held_byte(level),
         bases: bases,
         offsets12: offsets12,
         offsets34: offsets34,
         hystereses: hystereses,
         duties: duties,
         boosts: boosts,
-        boost_hysteresis: byte_of(number_in(entries, 50)),
+        boost_hysteresis: held_byte(boost_hysteresis),
         bindings: bindings,
         overrides: overrides,
         start_duties: start_duties,
@@ -502,14 +393,22 @@ fn refuse(refusal: u8) -> Settings
     }
 }
 
-// The setup of an S line, or its refusal: spelling first, then ranges, then duties that fall.
-pub fn settings_of(line: &[u8]) -> Settings
-    ensures { λ r. ⌜ r ≡ settingsOf (now (line .entry)) ⌝ }
+// Whether a line has the letter S and 59 fields behind it.
+fn is_setup(line: &[u8]) -> bool
+    ensures { λ r. ⌜ r ≡ isSetup (now (line .entry)) ⌝ }
 {
-    if text::count_fields(line) != 60 {
-        return refuse(SPELLING);
+    if text::width(line) == 1 {
+        if line[0] == b'S' {
+            return text::count_fields(line) == places::NUMBERS + 1;
+        }
     }
-    let entries = entries_of(line);
+    false
+}
+
+// The setup of these numbers, or its refusal: spelling first, then ranges, then duties that fall.
+fn settings_from(entries: [Entry; places::NUMBERS]) -> Settings
+    ensures { λ r. ⌜ r ≡ settingsFrom entries ⌝ }
+{
     if all_spelt(entries) {
         if all_within(entries) {
             if all_rise(entries) {
@@ -519,7 +418,17 @@ pub fn settings_of(line: &[u8]) -> Settings
                 };
             }
         }
-        return refuse(OUT_OF_RANGE);
+        return refuse(SETUP_OUT_OF_RANGE);
+    }
+    refuse(SPELLING)
+}
+
+// The setup of an S line, or its refusal.
+pub fn settings_of(line: &[u8]) -> Settings
+    ensures { λ r. ⌜ r ≡ settingsOf (now (line .entry)) ⌝ }
+{
+    if is_setup(line) {
+        return settings_from(entries_of(line));
     }
     refuse(SPELLING)
 }

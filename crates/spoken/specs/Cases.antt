@@ -10,10 +10,10 @@ use Rattle.temperature.specs.Order.{missing}
 use Rattle.event.specs.Event.{indexIn, readingIn, eventIn, quietStep, tickAnswer, takenStep, steppedChip}
 use Rattle.text.specs.Fields.{firstField, otherFields, fieldsOf, fieldAt}
 use Rattle.text.specs.Number.{isDigit, allDigits, valueOf, runOf, plusOf, minusOf, decimalOf, isSpelt}
-use Rattle.parse.specs.Parse.{letterOf, numberAt, indexOf, readingOf, pairOf, temperatureLine, aloneLine, eventOf}
-use Rattle.settings.specs.Settings.{settingAt, mosts, isWithin, plainOf, risesBy, settingsOf}
+use Rattle.parse.specs.Parse.{letterOf, numberAt, indexOf, spelledReading, pairOf, temperatureLine, aloneLine, eventBy}
+use Rattle.settings.specs.Settings.{settingAt, rangeOf, isWithin, plainOf, risesBy, isSetup, settingsOf}
 use Rattle.line.specs.declared.Session.{Session}
-use Rattle.line.specs.Line.{startSession, begunLine, judgedStep, judgedEvent, judgedParsed, judgedSettings, judgedSetup, judgedLine}
+use Rattle.line.specs.Line.{startSession, askedEvent, askedSettings, askedOther, askedBy, askedText, begunLine, setupLine, eventLine, judgedBy, judgedLine}
 use Rattle.theorems.specs.Alike.{hotter, AllNoHigher}
 use Rattle.spoken.specs.Lines.{answersOf, AllTaken, AllLinesAlike, same, events, none, more}
 use Rattle.spoken.specs.HotterLines.{demand-3-lines}
@@ -40,19 +40,19 @@ tick = 75 ∷ []
 -- ---- they are taken
 
 setup-taken : judgedLine startSession setup .refusal ≡ 0
-unfolding startSession judgedLine judgedSetup judgedSettings begunLine settingsOf settingAt every mosts isWithin risesBy plainOf letterOf fieldsOf firstField otherFields fieldAt decimalOf plusOf minusOf runOf allDigits isDigit valueOf isSpelt
+unfolding startSession judgedLine judgedBy askedText askedBy askedOther askedSettings eventBy setupLine begunLine settingsOf isSetup settingAt every rangeOf isWithin risesBy plainOf letterOf fieldsOf firstField otherFields fieldAt decimalOf plusOf minusOf runOf allDigits isDigit valueOf isSpelt
 setup-taken = refl
 
 warm-taken : (s : Session) → judgedLine s warm .refusal ≡ 0
-unfolding judgedLine judgedParsed judgedEvent judgedStep begunLine steppedChip eventIn takenStep indexIn readingIn quietStep eventOf letterOf fieldsOf firstField otherFields fieldAt temperatureLine pairOf readingOf numberAt indexOf decimalOf plusOf minusOf runOf allDigits isDigit valueOf isSpelt
+unfolding judgedLine judgedBy askedText askedBy askedEvent eventLine begunLine steppedChip eventIn takenStep indexIn readingIn quietStep eventBy letterOf fieldsOf firstField otherFields fieldAt temperatureLine pairOf spelledReading numberAt indexOf decimalOf plusOf minusOf runOf allDigits isDigit valueOf isSpelt
 warm-taken s = refl
 
 lost-taken : (s : Session) → judgedLine s lost .refusal ≡ 0
-unfolding judgedLine judgedParsed judgedEvent judgedStep begunLine steppedChip eventIn takenStep indexIn readingIn quietStep eventOf letterOf fieldsOf firstField otherFields fieldAt temperatureLine pairOf readingOf numberAt indexOf decimalOf plusOf minusOf runOf allDigits isDigit valueOf isSpelt
+unfolding judgedLine judgedBy askedText askedBy askedEvent eventLine begunLine steppedChip eventIn takenStep indexIn readingIn quietStep eventBy letterOf fieldsOf firstField otherFields fieldAt temperatureLine pairOf spelledReading numberAt indexOf decimalOf plusOf minusOf runOf allDigits isDigit valueOf isSpelt
 lost-taken s = refl
 
 tick-taken : (s : Session) → judgedLine s tick .refusal ≡ 0
-unfolding judgedLine judgedParsed judgedEvent judgedStep begunLine steppedChip eventIn takenStep tickAnswer eventOf letterOf fieldsOf firstField otherFields fieldAt aloneLine
+unfolding judgedLine judgedBy askedText askedBy askedEvent eventLine begunLine steppedChip eventIn takenStep tickAnswer eventBy letterOf fieldsOf firstField otherFields fieldAt aloneLine
 tick-taken s = refl
 
 pub warm-all : AllTaken startSession (setup ∷ warm ∷ tick ∷ [])
@@ -64,7 +64,7 @@ lost-all = more setup-taken (more (lost-taken _) (more (tick-taken _) none))
 -- ---- they are alike: the second says that the same zone is missing
 
 pub lines-alike : AllLinesAlike (setup ∷ warm ∷ tick ∷ []) (setup ∷ lost ∷ tick ∷ [])
-unfolding eventOf letterOf fieldsOf firstField otherFields fieldAt temperatureLine pairOf readingOf numberAt indexOf decimalOf plusOf minusOf runOf allDigits isDigit valueOf isSpelt
+unfolding eventBy letterOf fieldsOf firstField otherFields fieldAt temperatureLine pairOf spelledReading numberAt indexOf decimalOf plusOf minusOf runOf allDigits isDigit valueOf isSpelt
 lines-alike = more (same setup) (more (events refl refl (hotter 1 {r = Taken (pos 70)} missing)) (more (same tick) none))
 
 -- so the duties after K are at least as high in the second

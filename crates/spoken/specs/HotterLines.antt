@@ -5,16 +5,15 @@ use mathlib.Core.Path.{_≡_}
 use mathlib.Core.List.{List}
 use Prim.Native.Nat.{ℕ}
 use Rattle.state.specs.PowerOn.{defaultSetup}
-use Rattle.state.specs.ValidDefault.{default-valid}
-use Rattle.bus.specs.Changes.{never}
+use Rattle.state.specs.Valid.{default-valid}
+use Rattle.laws.specs.Never.{never}
 use Rattle.event.specs.declared.Event.{Event}
 use Rattle.event.specs.declared.Answer.the-variants.{Nothing, Ticked}
 use Rattle.event.specs.declared.Tick.{Tick}
 use Rattle.parse.specs.declared.Parsed.{Parsed}
 use Rattle.parse.specs.declared.Parsed.the-variants.{Fine}
 use Rattle.line.specs.declared.Session.{Session}
-use Rattle.line.specs.Line.{Judged}
-use Rattle.line.specs.Line.{startSession, begunLine, judgedLine}
+use Rattle.line.specs.Line.{Judged, startSession, begunLine, setupLine, eventLine, judgedLine}
 use Rattle.theorems.specs.Alike.{Alike, same as alike, NoHigher, others, AllNoHigher, none as no-answers, more as more-answers}
 use Rattle.theorems.specs.Hotter.{Pair, power-pair, step, next}
 use Rattle.spoken.specs.Lines.{answersOf, AllTaken, LinesAlike, AllLinesAlike, same, events, none, more}
@@ -31,12 +30,12 @@ nothing t e = never (cc)
 module _ (s t : Session) (p : Pair (s .chip) (t .chip)) where
   -- lines that say alike events
   events-rise : {l m : List ℕ} {e f : Event} {j k : Judged} → Alike e f → Takes s l (Fine e) j → Takes t m (Fine f) k → Lines j k
-  unfolding begunLine
+  unfolding begunLine eventLine
   events-rise a (event x) (event y) = record { chips = next p a x y; answers = step p a x y .answers }
 
   -- the same line: an event, or a setup, which starts both chips anew
   same-rises : {l : List ℕ} {q : Parsed} {j k : Judged} → Takes s l q j → Takes t l q k → Lines j k
-  unfolding begunLine
+  unfolding begunLine setupLine
   same-rises {l} (event {e} x) (event y) = events-rise {l = l} {m = l} (alike e) (event x) (event y)
   same-rises (setup v) (setup w) = record { chips = power-pair _ v; answers = others nothing nothing }
 

@@ -6,7 +6,7 @@ use Prim.Native.Nat.{ℕ}
 use Rattle.event.specs.declared.Event.{Event}
 use Rattle.event.specs.declared.Answer.{Answer}
 use Rattle.parse.specs.declared.Parsed.the-variants.{Fine}
-use Rattle.parse.specs.Parse.{letterOf, eventOf}
+use Rattle.parse.specs.Parse.{eventOf}
 use Rattle.line.specs.declared.Session.{Session}
 use Rattle.line.specs.Line.{judgedLine}
 use Rattle.theorems.specs.Alike.{Alike}
@@ -24,7 +24,7 @@ pub data AllTaken : Session → List (List ℕ) → Type 0 where
 -- the same line, or lines that say alike events: the same event, or a T event for the same zone that is hotter in the second
 pub data LinesAlike : List ℕ → List ℕ → Type 0 where
   same : (l : List ℕ) → LinesAlike l l
-  events : {l m : List ℕ} {e f : Event} → eventOf (letterOf l) l ≡ Fine e → eventOf (letterOf m) m ≡ Fine f → Alike e f → LinesAlike l m
+  events : {l m : List ℕ} {e f : Event} → eventOf l ≡ Fine e → eventOf m ≡ Fine f → Alike e f → LinesAlike l m
 
 -- alike place by place
 pub data AllLinesAlike : List (List ℕ) → List (List ℕ) → Type 0 where

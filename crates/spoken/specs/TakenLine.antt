@@ -1,99 +1,86 @@
 -- A line that is taken says an event that is not refused, or a setup that document 01 takes. Assumes nothing.
-use mathlib.Core.Path.{_≡_, refl, ap}
+use mathlib.Core.Path.{_≡_, refl}
 use mathlib.Core.Bool.{Bool, true, false}
 use mathlib.Core.List.{List}
 use Prim.Native.Nat.{ℕ}
 use native.Mathlib.Omega.{arith}
 use lib.Dec.{eqb, ltb}
 use lib.ListN.{length}
-use borrow.Author.Tests.{eqb-true, eqb-false}
+use borrow.Author.Tests.{eqb-false}
 use Rattle.laws.specs.Pick.{pick}
-use Rattle.state.specs.declared.Chip.{Chip}
-use Rattle.state.specs.PowerOn.{powerOn}
 use Rattle.state.specs.Valid.{Valid}
-use Rattle.bus.specs.Changes.{never}
 use Rattle.event.specs.declared.Event.{Event}
-use Rattle.event.specs.declared.Answer.{Answer}
-use Rattle.event.specs.declared.Answer.the-variants.{Nothing, Refused, Acknowledged, Byte, NoByte, Ticked}
-use Rattle.event.specs.Event.{steppedChip}
-use Rattle.event.specs.Refusal.{refused-number}
+use Rattle.event.specs.Event.{eventIn, refusalOf}
+use Rattle.event.specs.Refusal.{in-taken}
 use Rattle.parse.specs.declared.Parsed.{Parsed}
 use Rattle.parse.specs.declared.Parsed.the-variants.{Wrong, Fine}
 use Rattle.parse.specs.Parse.{letterOf, eventOf}
 use Rattle.settings.specs.Settings.{settingsOf}
 use Rattle.settings.specs.InRange.{settings-valid}
 use Rattle.line.specs.declared.Session.{Session}
-use Rattle.line.specs.Line.{Judged}
-use Rattle.line.specs.Line.{refusedLine, begunLine, judgedStep, judgedEvent, judgedParsed, judgedSettings, judgedSetup, judgedLine}
+use Rattle.line.specs.declared.Asked.{Asked}
+use Rattle.line.specs.declared.Asked.the-variants as asked
+use Rattle.line.specs.Line.{Judged, askedEvent, askedSettings, askedOther, askedBy, askedText, refusedLine, setupLine, eventLine, judgedBy, judgedLine}
 use Rattle.theorems.specs.Steps.{NotRefused}
 
 -- what a taken line makes of a session, by the event that it says; an S line says none
 pub data Takes (s : Session) (l : List ℕ) : Parsed → Judged → Type 0 where
-  event : {e : Event} → NotRefused (s .chip) e → Takes s l (Fine e) (begunLine (steppedChip (s .chip) e .chip) (steppedChip (s .chip) e .answer))
-  setup : Valid (settingsOf l .setup) → Takes s l Wrong (begunLine (powerOn (settingsOf l .setup)) Nothing)
+  event : {e : Event} → NotRefused (s .chip) e → Takes s l (Fine e) (eventLine (s .chip) e)
+  setup : Valid (settingsOf l .setup) → Takes s l Wrong (setupLine l)
 
--- a line with the letter S says no event
-says-none : (l : List ℕ) → eqb (letterOf l) 83 ≡ true → eventOf (letterOf l) l ≡ Wrong
-unfolding eventOf
-says-none l e = ap (λ k. eventOf k l) (eqb-true (letterOf l) 83 e)
+module _ (s : Session) (l : List ℕ) where
+  -- what comes of something that is asked for
+  abbrev made : Asked → Judged
+  made a = judgedBy s l a
 
-module _ (s : Session) where
-  -- ---- an event's line
-
-  -- an answer that is no refusal
-  step-begun : (c : Chip) (a : Answer) → ((n : ℕ) → a ≡ Refused n → ⊥) → judgedStep s c a ≡ begunLine c a
-  unfolding judgedStep
-  step-begun c (Refused n) f = absurd (f n refl)
-  step-begun c Nothing f = refl
-  step-begun c (Acknowledged a) f = refl
-  step-begun c (Byte b) f = refl
-  step-begun c NoByte f = refl
-  step-begun c (Ticked t) f = refl
-
-  -- an event's refusal is 2, and not 0
-  not-refused : (e : Event) → judgedEvent s e .refusal ≡ 0 → NotRefused (s .chip) e
-  unfolding judgedEvent judgedStep refusedLine
-  not-refused e z n q =
-      omega (arith, z, refused-number (s .chip) e n q, ap (λ (a : Answer). judgedStep s (steppedChip (s .chip) e .chip) a .refusal) q)
-
-  event-takes : (l : List ℕ) (e : Event) → judgedEvent s e .refusal ≡ 0 → Takes s l (Fine e) (judgedEvent s e)
-  unfolding judgedEvent
-  event-takes l e z =
-      let f : NotRefused (s .chip) e = not-refused e z in
-      rw (step-begun (steppedChip (s .chip) e .chip) (steppedChip (s .chip) e .answer) f) (event f)
-
-  -- ---- an S line
-
-  setup-takes : (l : List ℕ) → judgedSetup s l .refusal ≡ 0 → Takes s l Wrong (judgedSetup s l)
-  unfolding judgedSetup judgedSettings refusedLine
-  setup-takes l =
-      go (eqb (settingsOf l .refusal) 4) (s .begun) (eqb (settingsOf l .refusal) 0) (eqb-true (settingsOf l .refusal) 0) (eqb-false (settingsOf l .refusal) 0)
+  -- an event in range is not refused
+  event-takes : (e : Event) → made (askedEvent e) .refusal ≡ 0 → Takes s l (Fine e) (made (askedEvent e))
+  unfolding askedEvent refusalOf judgedBy refusedLine
+  event-takes e = go (eventIn e) refl
     where
-      made : Bool → Bool → Bool → Judged
-      made wrong begun taken =
-          pick wrong (refusedLine s 4)
-          (pick begun (refusedLine s 3)
-          (pick taken (begunLine (powerOn (settingsOf l .setup)) Nothing) (refusedLine s (settingsOf l .refusal))))
+      go : (b : Bool) → eventIn e ≡ b → made (pick b (asked.Event e) (asked.Refused (pick b 0 2))) .refusal ≡ 0 → Takes s l (Fine e) (made (pick b (asked.Event e) (asked.Refused (pick b 0 2))))
+      go true i z = event (in-taken (s .chip) e i)
+      go false o z = absurd (omega arith)
 
-      go : (wrong begun taken : Bool) → (taken ≡ true → settingsOf l .refusal ≡ 0) → (taken ≡ false → settingsOf l .refusal ≡ 0 → ⊥) → made wrong begun taken .refusal ≡ 0 → Takes s l Wrong (made wrong begun taken)
-      go true begun taken f g z = absurd (omega arith)
-      go false true taken f g z = absurd (omega arith)
-      go false false true f g z = setup (settings-valid l (f refl))
-      go false false false f g z = absurd (g refl z)
+  -- an S line: a refusal of its settings that is none of the tests is not 0
+  settings-takes : (refusal : ℕ) → made (askedSettings (s .begun) refusal) .refusal ≡ 0 → Takes s l Wrong (made (askedSettings (s .begun) refusal))
+  unfolding askedSettings judgedBy refusedLine
+  settings-takes refusal = go (eqb refusal 4) (s .begun) (eqb refusal 0) (eqb-false refusal 0)
+    where
+      answer : Bool → Bool → Bool → Asked
+      answer wrong begun taken = pick wrong (asked.Refused 4) (pick begun (asked.Refused 3) (pick taken asked.Setup (asked.Refused refusal)))
 
-  -- ---- a line
+      go : (wrong begun taken : Bool) → (taken ≡ false → refusal ≡ 0 → ⊥) → made (answer wrong begun taken) .refusal ≡ 0 → Takes s l Wrong (made (answer wrong begun taken))
+      go true begun taken g z = absurd (omega arith)
+      go false true taken g z = absurd (omega arith)
+      go false false true g z = setup (settings-valid l)
+      go false false false g z = absurd (g refl z)
+
+  -- a line that says no event
+  other-takes : made (askedOther (s .begun) l) .refusal ≡ 0 → Takes s l Wrong (made (askedOther (s .begun) l))
+  unfolding askedOther judgedBy refusedLine
+  other-takes = go (eqb (letterOf l) 83)
+    where
+      answer : Bool → Asked
+      answer letter = pick letter (askedSettings (s .begun) (settingsOf l .refusal)) (asked.Refused 4)
+
+      go : (letter : Bool) → made (answer letter) .refusal ≡ 0 → Takes s l Wrong (made (answer letter))
+      go true z = settings-takes (settingsOf l .refusal) z
+      go false z = absurd (omega arith)
+
+  said-takes : (p : Parsed) → made (askedBy (s .begun) l p) .refusal ≡ 0 → Takes s l p (made (askedBy (s .begun) l p))
+  unfolding askedBy
+  said-takes Wrong z = other-takes z
+  said-takes (Fine e) z = event-takes e z
 
   -- every line that is taken
-  pub line-takes : (l : List ℕ) → judgedLine s l .refusal ≡ 0 → Takes s l (eventOf (letterOf l) l) (judgedLine s l)
-  unfolding judgedLine judgedParsed refusedLine
-  line-takes l = go (ltb 512 (length l)) (eqb (letterOf l) 83) (eventOf (letterOf l) l) (says-none l)
+  pub line-takes : judgedLine s l .refusal ≡ 0 → Takes s l (eventOf l) (judgedLine s l)
+  unfolding judgedLine askedText judgedBy refusedLine
+  line-takes = go (ltb 512 (length l))
     where
-      made : Bool → Bool → Parsed → Judged
-      made long letter p = pick long (refusedLine s 4) (pick letter (judgedSetup s l) (judgedParsed s p))
+      answer : Bool → Asked
+      answer long = pick long (asked.Refused 4) (askedBy (s .begun) l (eventOf l))
 
-      go : (long letter : Bool) (p : Parsed) → (letter ≡ true → p ≡ Wrong) → made long letter p .refusal ≡ 0 → Takes s l p (made long letter p)
-      go true letter p f z = absurd (omega arith)
-      go false true Wrong f z = setup-takes l z
-      go false true (Fine e) f z = let q = f refl in absurd (never (cc))
-      go false false Wrong f z = absurd (omega arith)
-      go false false (Fine e) f z = event-takes l e z
+      go : (long : Bool) → made (answer long) .refusal ≡ 0 → Takes s l (eventOf l) (made (answer long))
+      go true z = absurd (omega arith)
+      go false z = said-takes (eventOf l) z

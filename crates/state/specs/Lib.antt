@@ -2,6 +2,7 @@ pub mod Parts
 pub mod With
 pub mod PowerOn
 pub mod Made
+pub mod Most
 pub mod Valid
-pub mod ValidDefault
+pub mod Powered
 pub mod Order

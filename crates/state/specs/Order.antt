@@ -10,7 +10,7 @@ use Rattle.state.specs.declared.Chip.{Chip}
 use Rattle.state.specs.declared.Drive.{Drive}
 use Rattle.state.specs.Parts.{zoneAt}
 
-pub record NoHigher (d e : Drive) : Type 0 where
+pub record DriveNoHigher (d e : Drive) : Type 0 where
   pub steps : (i : ℕ) → getD (d .steps) i 0 ≤ getD (e .steps) i 0
   pub boosts : (i : ℕ) → T (getD (d .boosts) i false) → T (getD (e .boosts) i false)
   pub ramps : d .ramps ≡ e .ramps
@@ -24,4 +24,4 @@ pub record Cooler (c d : Chip) : Type 0 where
   pub fans : c .fans ≡ d .fans
   pub hot : c .hot ≡ d .hot
   pub pin : c .pin ≡ d .pin
-  pub drive : NoHigher (c .drive) (d .drive)
+  pub drive : DriveNoHigher (c .drive) (d .drive)

@@ -4,7 +4,12 @@ ghost use lib.ListN.{getD, set};
 ghost use Rattle.state.specs.Parts.{noZone, noGauge};
 ghost use Rattle.map.specs.Tables.{defaults};
 ghost use Rattle.state.specs.PowerOn.{defaultSetup, powerOn, atRest};
+ghost use Rattle.state.specs.Most.{DUTY-MOST};
+ghost use Rattle.state.specs.Valid.{degreesIn, boostIn, overrideIn, basesIn, numbersIn, neverFall, boostsIn, overridesIn, tablesIn, fansIn, setupIn};
+ghost use Rattle.state.specs.Powered.{powered, poweredOn};
 use temperature::Reading;
+
+pub mod most;
 
 // A voltage or fan count, or none.
 pub enum Count {
@@ -100,6 +105,15 @@ pub struct Chip {
     pub drive: Drive,
 }
 
+// The chip, and 0 or the refusal of its setup.
+pub struct Powered {
+    pub chip: Chip,
+    pub refusal: u8,
+}
+
+// The refusal of a setup number out of range, or of duties that fall.
+pub const SETUP_OUT_OF_RANGE: u8 = 1;
+
 // The setup without a setup.
 pub fn default_setup() -> Setup
     ensures { λ r. ⌜ r ≡ defaultSetup ⌝ }
@@ -154,8 +168,175 @@ fn at_rest() -> Drive
     }
 }
 
+// ---- the setups that are taken
+
+// No i8 is above 127.
+fn degrees_in(degrees: i8) -> bool
+    ensures { λ r. ⌜ r ≡ degreesIn degrees ⌝ }
+{
+    -most::DEGREES <= degrees
+}
+
+fn boost_in(boost: Boost) -> bool
+    ensures { λ r. ⌜ r ≡ boostIn boost ⌝ }
+{
+    let Boost::At(degrees) = boost else {
+        return true;
+    };
+    degrees_in(degrees)
+}
+
+fn override_in(duty: Override) -> bool
+    ensures { λ r. ⌜ r ≡ overrideIn duty ⌝ }
+{
+    let Override::At(d) = duty else {
+        return true;
+    };
+    d <= most::DUTY
+}
+
+fn bases_in(bases: [i8; 4]) -> bool
+    ensures { λ r. ⌜ r ≡ basesIn bases ⌝ }
+{
+    let mut k: usize = 0;
+    while k < 4 {
+        if degrees_in(bases[k]) {
+            k += 1;
+        } else {
+            return false;
+        }
+    }
+    true
+}
+
+fn bytes_in(most: u8, numbers: &[u8]) -> bool
+    ensures { λ r. ⌜ r ≡ numbersIn most (now (numbers .entry)) ⌝ }
+{
+    let mut k: usize = 0;
+    while k < numbers.len() {
+        if numbers[k] <= most {
+            k += 1;
+        } else {
+            return false;
+        }
+    }
+    true
+}
+
+fn duties_in(duties: &[u16]) -> bool
+    ensures { λ r. ⌜ r ≡ numbersIn DUTY-MOST (now (duties .entry)) ⌝ }
+{
+    let mut k: usize = 0;
+    while k < duties.len() {
+        if duties[k] <= most::DUTY {
+            k += 1;
+        } else {
+            return false;
+        }
+    }
+    true
+}
+
+fn never_fall(duties: [u16; 13]) -> bool
+    ensures { λ r. ⌜ r ≡ neverFall duties ⌝ }
+{
+    let mut k: usize = 0;
+    while k < 12 {
+        if duties[k] <= duties[k + 1] {
+            k += 1;
+        } else {
+            return false;
+        }
+    }
+    true
+}
+
+fn boosts_in(boosts: [ZoneBoost; 6]) -> bool
+    ensures { λ r. ⌜ r ≡ boostsIn boosts ⌝ }
+{
+    let mut k: usize = 0;
+    while k < 6 {
+        let zone = boosts[k];
+        let boost = zone.boost;
+        if boost_in(boost) {
+            k += 1;
+        } else {
+            return false;
+        }
+    }
+    true
+}
+
+fn overrides_in(overrides: [FanOverride; 2]) -> bool
+    ensures { λ r. ⌜ r ≡ overridesIn overrides ⌝ }
+{
+    let mut k: usize = 0;
+    while k < 2 {
+        let fan = overrides[k];
+        let duty = fan.duty;
+        if override_in(duty) {
+            k += 1;
+        } else {
+            return false;
+        }
+    }
+    true
+}
+
+fn tables_in(setup: Setup) -> bool
+    ensures { λ r. ⌜ r ≡ tablesIn setup ⌝ }
+{
+    let bases = setup.bases;
+    let offsets12 = setup.offsets12;
+    let offsets34 = setup.offsets34;
+    let hystereses = setup.hystereses;
+    if bases_in(bases) {
+        if bytes_in(most::OFFSET, &offsets12) {
+            if bytes_in(most::OFFSET, &offsets34) {
+                return bytes_in(most::HYSTERESIS, &hystereses);
+            }
+        }
+    }
+    false
+}
+
+fn fans_in(setup: Setup) -> bool
+    ensures { λ r. ⌜ r ≡ fansIn setup ⌝ }
+{
+    let duties = setup.duties;
+    let overrides = setup.overrides;
+    let start_duties = setup.start_duties;
+    if duties_in(&duties) {
+        if never_fall(duties) {
+            if overrides_in(overrides) {
+                return duties_in(&start_duties);
+            }
+        }
+    }
+    false
+}
+
+// Whether each number is in its range and the duties never fall. Bindings and start counts are any bytes.
+fn setup_in(setup: Setup) -> bool
+    ensures { λ r. ⌜ r ≡ setupIn setup ⌝ }
+{
+    let boosts = setup.boosts;
+    if setup.level <= most::LEVEL {
+        if setup.boost_hysteresis <= most::HYSTERESIS {
+            if boosts_in(boosts) {
+                if tables_in(setup) {
+                    return fans_in(setup);
+                }
+            }
+        }
+    }
+    false
+}
+
+// ---- power-on
+
 // The chip at power-on.
-pub fn power_on(setup: Setup) -> Chip
+fn new_chip(setup: Setup) -> Chip
     ensures { λ r. ⌜ r ≡ powerOn setup ⌝ }
 {
     let level = setup.level;
@@ -182,6 +363,38 @@ pub fn power_on(setup: Setup) -> Chip
             latch: Latch::Open,
         },
         drive: drive,
+    }
+}
+
+// A chip powered on anew; a setup that is refused leaves it as it was.
+pub fn power_again(chip: Chip, setup: Setup) -> Powered
+    ensures { λ r. ⌜ r ≡ powered chip setup ⌝ }
+{
+    if setup_in(setup) {
+        return Powered {
+            chip: new_chip(setup),
+            refusal: 0,
+        };
+    }
+    Powered {
+        chip: chip,
+        refusal: SETUP_OUT_OF_RANGE,
+    }
+}
+
+// A first chip; where its setup is refused, the one without a setup.
+pub fn power_on(setup: Setup) -> Powered
+    ensures { λ r. ⌜ r ≡ poweredOn setup ⌝ }
+{
+    if setup_in(setup) {
+        return Powered {
+            chip: new_chip(setup),
+            refusal: 0,
+        };
+    }
+    Powered {
+        chip: new_chip(default_setup()),
+        refusal: SETUP_OUT_OF_RANGE,
     }
 }
 

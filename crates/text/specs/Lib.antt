@@ -1,4 +1,5 @@
 pub mod Fields
+pub mod Widths
 pub mod Number
 pub mod Hex
 pub mod Answers

@@ -86,10 +86,6 @@ module _ (t : List ℕ) where
   unfolding fieldsOf
   fields-one h = rw (others-none t h, first-take t, h, take-length)
 
-  -- so it has one field
-  pub fields-last : length (firstField t) ≡ length t → length (fieldsOf t) ≡ 1
-  fields-last h = rw (fields-one h)
-
   -- the next field is the first of what stands behind the tab
   pub field-next : (j : ℕ) → length (firstField t) < length t → fieldAt t (suc j) ≡ fieldAt (drop (length (firstField t) + 1) t) j
   unfolding fieldAt
@@ -108,11 +104,7 @@ module _ (s : List ℕ) (i w : ℕ) (e : w ≡ length (firstField (drop i s))) w
   behind-tab : drop (length (firstField (drop i s)) + 1) (drop i s) ≡ drop (i + w + 1) s
   behind-tab = rw (← e, drop-drop, ← add-assoc)
 
-  -- where the line goes on, the fields left at i are this one and those left behind its tab
-  pub walk-more : i + w < length s → fieldsOf (drop i s) ≡ take w (drop i s) ∷ fieldsOf (drop (i + w + 1) s)
-  walk-more h = rw (fields-more (drop i s) (goes-on h), behind-tab, ← field-first (drop i s), walk-field)
-
-  -- so the next field is the first left there
+  -- where the line goes on, the next field is the first left behind its tab
   pub walk-next : (j : ℕ) → i + w < length s → fieldAt (drop i s) (suc j) ≡ fieldAt (drop (i + w + 1) s) j
   walk-next j h = field-next (drop i s) j (goes-on h) ∙ rw behind-tab
 
@@ -124,11 +116,7 @@ module _ (s : List ℕ) (i w : ℕ) (e : w ≡ length (firstField (drop i s))) w
 
 module _ (s : List ℕ) (i : ℕ) (h : i < length s) where
   module _ (e : getD s i 0 ≡ 9) where
-    -- at a tab the first field left is empty
-    pub first-left-tab : firstField (drop i s) ≡ []
-    first-left-tab = rw (left-some s i h) (first-tab _ _ e)
-
-    -- and the others are the fields left behind it
+    -- at a tab the other fields are those left behind it
     pub others-left-tab : otherFields (drop i s) ≡ fieldsOf (drop (i + 1) s)
     others-left-tab = rw (left-some s i h) (others-tab _ _ e)
 
@@ -139,11 +127,7 @@ module _ (s : List ℕ) (i : ℕ) (h : i < length s) where
     field-left-tab (suc k) p = rw (others-left-tab, sub-one)
 
   module _ (e : getD s i 0 ≡ 9 → ⊥) where
-    -- any other byte is of the first field left
-    pub first-left-byte : firstField (drop i s) ≡ getD s i 0 ∷ firstField (drop (i + 1) s)
-    first-left-byte = rw (left-some s i h) (first-byte _ _ e)
-
-    -- and the others are those left behind it
+    -- at any other byte they are those left behind it too
     pub others-left-byte : otherFields (drop i s) ≡ otherFields (drop (i + 1) s)
     others-left-byte = rw (left-some s i h) (others-byte _ _ e)
 

@@ -3,6 +3,7 @@ ghost use mathlib.Core.Path.{_≡_};
 ghost use mathlib.Core.List.{[], _∷_};
 ghost use Prim.Native.Nat.{_+_, _≤_, _<_};
 ghost use lib.ListN.{length, drop};
+ghost use Rattle.text.specs.Widths.{widthBefore};
 ghost use Rattle.text.specs.Fields.{firstField, fieldsOf, fieldAt};
 ghost use Rattle.text.specs.Number.{runOf, saturatedRun, saturated, plusOf, minusOf, decimalOf, isSpelt, oneMore};
 ghost use Rattle.text.specs.Hex.{nibbleOf, hexByteOf};
@@ -35,21 +36,37 @@ pub enum Run {
     Digits(u16),
 }
 
-// ---- fields
+// ---- lines and fields
+
+// How many bytes stand before the first that is this one.
+fn width_before(s: &[u8], end: u8) -> usize
+    ensures within { λ r. ⌜ r ≤ length (now (s .entry)) ⌝ }
+    ensures holds { λ r. ⌜ r ≡ widthBefore end (now (s .entry)) ⌝ }
+{
+    let mut i = 0;
+    while i < s.len() {
+        if s[i] == end {
+            return i;
+        }
+        i += 1;
+    }
+    i
+}
 
 // How many bytes stand before the first tab.
 pub fn width(s: &[u8]) -> usize
     ensures within { λ r. ⌜ r ≤ length (now (s .entry)) ⌝ }
     ensures holds { λ r. ⌜ r ≡ length (firstField (now (s .entry))) ⌝ }
 {
-    let mut i = 0;
-    while i < s.len() {
-        if s[i] == TAB {
-            return i;
-        }
-        i += 1;
-    }
-    i
+    width_before(s, TAB)
+}
+
+// How many bytes stand before the first line feed.
+pub fn line_width(s: &[u8]) -> usize
+    ensures within { λ r. ⌜ r ≤ length (now (s .entry)) ⌝ }
+    ensures holds { λ r. ⌜ r ≡ widthBefore 10 (now (s .entry)) ⌝ }
+{
+    width_before(s, LINE_FEED)
 }
 
 // How many fields a line has: one more than its tabs.

@@ -16,7 +16,7 @@ use Rattle.state.specs.declared.Gauge.{Gauge}
 use Rattle.state.specs.declared.Pin.{Pin}
 use Rattle.state.specs.Parts.{noZone, zoneAt}
 use Rattle.state.specs.With.{withZones, withDrive}
-use Rattle.state.specs.Order.{NoHigher, Cooler}
+use Rattle.state.specs.Order.{DriveNoHigher, Cooler}
 
 -- ---- zones
 
@@ -39,7 +39,7 @@ zones-set {zs} {ws} z i p = record {
 -- ---- chips
 
 -- chips with the same of all else
-pub same-but : {s : Setup} {r : List ℕ} {zs ws : List Zone} {v f : List Gauge} {h : List Bool} {p : Pin} {d e : Drive} → ZonesCooler zs ws → NoHigher d e → Cooler (record { setup = s; registers = r; zones = zs; volts = v; fans = f; hot = h; pin = p; drive = d }) (record { setup = s; registers = r; zones = ws; volts = v; fans = f; hot = h; pin = p; drive = e })
+pub same-but : {s : Setup} {r : List ℕ} {zs ws : List Zone} {v f : List Gauge} {h : List Bool} {p : Pin} {d e : Drive} → ZonesCooler zs ws → DriveNoHigher d e → Cooler (record { setup = s; registers = r; zones = zs; volts = v; fans = f; hot = h; pin = p; drive = d }) (record { setup = s; registers = r; zones = ws; volts = v; fans = f; hot = h; pin = p; drive = e })
 unfolding zoneAt
 same-but z n = record {
   setup = refl;

@@ -18,7 +18,7 @@ use Rattle.state.specs.declared.Zone.{Zone}
 use Rattle.state.specs.declared.Count.{Count}
 use Rattle.state.specs.Parts.{registerAt, zoneAt}
 use Rattle.state.specs.With.{withRegisters, withRegister, withZone, withVolt, withFan, withHotInput}
-use Rattle.state.specs.Order.{NoHigher, Cooler}
+use Rattle.state.specs.Order.{DriveNoHigher, Cooler}
 use Rattle.sense.specs.Errors.{comparedVolt}
 use Rattle.sense.specs.Missing.{missed}
 use Rattle.sense.specs.Events.{zoneHeard, tookTemperature, feedsThree, feedsFour, fedZone, tookVoltage, tookFan, tookHot, tookPin, tookReset}
@@ -31,7 +31,7 @@ use Rattle.theorems.specs.Beside.{ZonesCooler, zones-set, same-but, besi
 
 -- ---- c, beside a chip d that differs from it in zones and drive
 
-module _ (c : Chip) {zs : List Zone} {x : Drive} (z : ZonesCooler (c .zones) zs) (n : NoHigher (c .drive) x) where
+module _ (c : Chip) {zs : List Zone} {x : Drive} (z : ZonesCooler (c .zones) zs) (n : DriveNoHigher (c .drive) x) where
   abbrev d : Chip
   d = beside c zs x
 
@@ -114,7 +114,7 @@ module _ (c : Chip) {zs : List Zone} {x : Drive} (z : ZonesCooler (c .zones) zs)
   register-cooler a byte =
       pick-related Alters (isShut (registerAt c CONFIGURATION) (homeOf a)) itself (kind-cooler (homeOf a) byte (kindOf (homeOf a)))
 
-module _ (c : Chip) {zs : List Zone} {x : Drive} (z : ZonesCooler (c .zones) zs) (n : NoHigher (c .drive) x) where
+module _ (c : Chip) {zs : List Zone} {x : Drive} (z : ZonesCooler (c .zones) zs) (n : DriveNoHigher (c .drive) x) where
   -- V
   pub voltage-cooler : (channel : ℕ) (count : Count) → Cooler (tookVoltage c channel count) (tookVoltage (beside c zs x) channel count)
   unfolding tookVoltage withVolt

@@ -1,12 +1,11 @@
 -- What events leave of the voltages and fan counts: a reading that is missing stays so until its own event gives one. Assumes nothing.
 use mathlib.Core.Path.{_≡_, refl, ap, _∙_}
-use mathlib.Core.Bool.{Bool, true, false}
+use mathlib.Core.Bool.{true}
 use mathlib.Core.List.{List}
 use Prim.Native.Nat.{ℕ, zero, suc, _-_}
 use native.Mathlib.Omega.{arith}
 use lib.Dec.{ltb}
 use lib.ListN.{getD, set}
-use Rattle.laws.specs.Pick.{pick}
 use Rattle.laws.specs.Pointwise.{pick-each}
 use Rattle.laws.specs.Store.{set-cases}
 use Rattle.map.specs.Names.{TEMPERATURE-SOURCE-SELECT}
@@ -19,12 +18,13 @@ use Rattle.state.specs.With.{withZone, withVolt, withFan}
 use Rattle.sense.specs.Missing.{missed}
 use Rattle.sense.specs.Events.{feedsThree, feedsFour, fedZone, tookVoltage, tookFan}
 use Rattle.sense.specs.Keeps.{temperature-keeps, voltage-keeps, fan-keeps, hot-keeps, pin-keeps, reset-keeps, missed-keeps}
-use Rattle.bus.specs.Changes.{never}
+use Rattle.laws.specs.Never.{never}
 use Rattle.bus.specs.Transactions.{write-keeps, read-keeps}
 use Rattle.drive.specs.TickOrder.{tick-keeps}
 use Rattle.event.specs.declared.Event.{Event}
 use Rattle.event.specs.declared.Event.the-variants.{Temperature, Voltage, Fan, Hot, Pin, Tick, Reset, Write, Read}
-use Rattle.event.specs.Event.{indexIn, eventIn, quietStep, refusedStep, tickAnswer, writtenAnswer, readAnswer, takenStep, steppedChip}
+use Rattle.event.specs.Event.{indexIn, eventIn, quietStep, tickAnswer, writtenAnswer, readAnswer, takenStep, steppedChip}
+use Rattle.theorems.specs.Taken.{step-left}
 
 -- ---- events that give no voltage and no fan count
 
@@ -103,19 +103,10 @@ module _ (c : Chip) (i : ℕ) where
   fan-left (fan (suc k) n) h r m = fan-missing (suc k - 1) n m (unless-taken Fan i k n h)
   fan-left (neither f) h r m = rw (f c .fans, fanAt) m
 
-  -- what holds of a chip and of what an event in range leaves holds of what any event leaves
-  step-left : (P : Chip → Type 0) (e : Event) → (eventIn e ≡ true → P (takenStep c e .chip)) → P c → P (steppedChip c e .chip)
-  unfolding steppedChip refusedStep
-  step-left P e taken kept = go (eventIn e) taken
-    where
-      go : (t : Bool) → (t ≡ true → P (takenStep c e .chip)) → P (pick t (takenStep c e) (refusedStep c) .chip)
-      go true f = f refl
-      go false f = kept
-
   -- a missing voltage stays missing under an event that does not give it a taken reading
-  pub volt-stays : {e : Event} → Gives e → ((n : ℕ) → e ≡ Voltage (suc i) (Taken n) → ⊥) → voltAt c i ≡ Missing → voltAt (steppedChip c e .chip) i ≡ Missing
-  volt-stays {e} g h m = step-left (λ (d : Chip). voltAt d i ≡ Missing) e (λ r. volt-left g h r m) m
+  pub volt-stays : {e : Event} → Gives e → (eventIn e ≡ true → (n : ℕ) → e ≡ Voltage (suc i) (Taken n) → ⊥) → voltAt c i ≡ Missing → voltAt (steppedChip c e .chip) i ≡ Missing
+  volt-stays {e} g h m = step-left (λ (d : Chip). voltAt d i ≡ Missing) c e (λ r. volt-left g (h r) r m) m
 
   -- a missing fan count stays missing under an event that does not give it a taken reading
-  pub fan-stays : {e : Event} → Gives e → ((n : ℕ) → e ≡ Fan (suc i) (Taken n) → ⊥) → fanAt c i ≡ Missing → fanAt (steppedChip c e .chip) i ≡ Missing
-  fan-stays {e} g h m = step-left (λ (d : Chip). fanAt d i ≡ Missing) e (λ r. fan-left g h r m) m
+  pub fan-stays : {e : Event} → Gives e → (eventIn e ≡ true → (n : ℕ) → e ≡ Fan (suc i) (Taken n) → ⊥) → fanAt c i ≡ Missing → fanAt (steppedChip c e .chip) i ≡ Missing
+  fan-stays {e} g h m = step-left (λ (d : Chip). fanAt d i ≡ Missing) c e (λ r. fan-left g (h r) r m) m

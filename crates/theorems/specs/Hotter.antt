@@ -1,11 +1,12 @@
 -- Demand 3: "Of two lists of events, none refused, from one setup, alike but that temperatures in the second may be hotter (missing is
 -- hottest), each fan's duty after every tick, before the start-up kick, is at least as high in the second." Assumes nothing.
-use mathlib.Core.Path.{sym, _∙_}
+use mathlib.Core.Path.{_≡_, sym, _∙_}
 use mathlib.Core.List.{List}
 use Rattle.state.specs.declared.Chip.{Chip}
 use Rattle.state.specs.declared.Setup.{Setup}
 use Rattle.state.specs.PowerOn.{powerOn}
 use Rattle.state.specs.Valid.{Valid}
+use Rattle.state.specs.Powered.{poweredOn, powered-valid}
 use Rattle.state.specs.Order.{Cooler}
 use Rattle.event.specs.declared.Event.{Event}
 use Rattle.event.specs.Event.{steppedChip}
@@ -47,6 +48,7 @@ unfolding answersTo
 run p none t u = none
 run p (more a rest) (more t ts) (more u us) = more (step p a t u .answers) (run (next p a t u) rest ts us)
 
-pub demand-3 : (s : Setup) → Valid s → (es fs : List Event) → AllAlike es fs → NoneRefused (powerOn s) es → NoneRefused (powerOn s) fs
+-- from one setup, which is taken: `state::power_on` and `port::power_on` answer 0
+pub demand-3 : (s : Setup) → poweredOn s .refusal ≡ 0 → (es fs : List Event) → AllAlike es fs → NoneRefused (powerOn s) es → NoneRefused (powerOn s) fs
     → AllNoHigher (answersTo (powerOn s) es) (answersTo (powerOn s) fs)
-demand-3 s v es fs a p q = run (power-pair s v) a p q
+demand-3 s t es fs a p q = run (power-pair s (powered-valid s t)) a p q

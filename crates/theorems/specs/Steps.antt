@@ -13,10 +13,10 @@ use Rattle.state.specs.declared.Drive.{Drive}
 use Rattle.state.specs.declared.Zone.{Zone}
 use Rattle.state.specs.Parts.{zoneAt}
 use Rattle.state.specs.Valid.{Valid}
-use Rattle.state.specs.Order.{Cooler, NoHigher as DriveNoHigher}
+use Rattle.state.specs.Order.{Cooler, DriveNoHigher}
 use Rattle.sense.specs.Missing.{missed}
 use Rattle.bus.specs.Read.{Shown as Byte, NoByte as NoneShown, Byte as ByteShown}
-use Rattle.bus.specs.Changes.{never}
+use Rattle.laws.specs.Never.{never}
 use Rattle.drive.specs.TickOrder.{duty-rises, tick-cooler}
 use Rattle.event.specs.declared.Event.{Event}
 use Rattle.event.specs.declared.Event.the-variants.{Temperature, Voltage, Fan, Hot, Pin, Tick, Reset, Write, Read}
@@ -24,7 +24,7 @@ use Rattle.event.specs.declared.Answer.the-variants.{Nothing, Refused, Acknowle
 use Rattle.event.specs.declared.Tick.{Tick as Shown}
 use Rattle.event.specs.declared.Stepped.{Stepped}
 use Rattle.event.specs.Event.{eventIn, quietStep, refusedStep, writtenAnswer, seenAnswer, readAnswer, takenStep, steppedChip}
-use Rattle.event.specs.Alike.{missed-alike}
+use Rattle.event.specs.SameShape.{missed-shape}
 use Rattle.event.specs.Ticking.{tick-chip, tickShown, tick-answers}
 use Rattle.theorems.specs.Alike.{Alike, same, hotter, NoHigher, ticks, others}
 use Rattle.theorems.specs.Beside.{ZonesCooler, beside, is-beside}
@@ -92,7 +92,7 @@ module _ (c : Chip) {zs : List Zone} {x : Drive} (v : Valid (c .setup)) (z : Zon
       k = missed-cooler c z n
 
       valid : Valid (missed c .setup)
-      valid = rw (missed-alike c .setup) v
+      valid = rw (missed-shape c .setup) v
 
   -- each event, taken by both
   taken-rises : (e : Event) → Rises (takenStep c e) (takenStep d e)
@@ -121,7 +121,7 @@ module _ (c : Chip) {zs : List Zone} {x : Drive} (v : Valid (c .setup)) (z : Zon
   -- alike events
   alike-rises : {e f : Event} → Alike e f → NotRefused c e → NotRefused d f → Rises (steppedChip c e) (steppedChip d f)
   alike-rises (same e) p q = same-rises e
-  alike-rises (hotter zone h) p q = hotter-rises zone h p q
+  alike-rises (hotter zone {r} {s} h) p q = hotter-rises zone {r = r} {s = s} h p q
 
 -- alike events, not refused, of any two chips of which the first is no hotter
 pub steps-rise : {c d : Chip} {e f : Event} → Valid (c .setup) → length (c .zones) ≡ length (d .zones) → Cooler c d → Alike e f → NotRefused c e → NotRefused d f → Rises (steppedChip c e) (steppedChip d f)

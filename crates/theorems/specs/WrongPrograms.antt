@@ -1,28 +1,17 @@
 -- Document 01, "What counts as done": "Try these against it". What each of these programs answers is not what the definition answers, so a
--- promise to answer by the definition shuts it out. The session is that of 01; its K are the lines 1, 4, 7 and 9. Assumes nothing.
-use mathlib.Core.Path.{_≡_, refl, ap, _∙_}
-use mathlib.Core.Bool.{true}
-use mathlib.Core.List.{List, [], _∷_, map}
+-- promise to answer by the definition shuts it out. The session is that of 01; its K are the lines 1, 4, 7 and 9. "One that refuses every
+-- line" is shut out in spoken/specs/WrongLines.antt. Assumes nothing.
+use mathlib.Core.Path.{_≡_, ap, _∙_}
+use mathlib.Core.List.{List, map}
 use Prim.Native.Nat.{ℕ, _-_}
 use native.Mathlib.Omega.{arith}
 use lib.ListN.{getD}
-use Rattle.map.specs.Tables.{defaults, writables, lockMarks, homes}
-use Rattle.map.specs.Map.{writableOf, lockMarked, homeOf}
-use Rattle.map.specs.Bits.{isSet}
-use Rattle.map.specs.Kind.{kindOf}
-use Rattle.map.specs.Slave.{slaveAddress}
-use Rattle.state.specs.Parts.{registerAt}
-use Rattle.state.specs.With.{withRegister}
+use Rattle.laws.specs.Never.{never}
 use Rattle.state.specs.PowerOn.{defaultSetup, powerOn}
-use Rattle.bus.specs.Latch.{latchBy, latchAfter, transactedPin, isOurs, transacted}
-use Rattle.bus.specs.Write.{storedByte, stored, changeKind, isShut, changeHome, changeOf, changed, wroteRegister, wroteByte}
-use Rattle.bus.specs.Read.{shownKind, shownHome, shownRegister, readByte}
-use Rattle.bus.specs.Changes.{never}
-use Rattle.event.specs.declared.Event.the-variants.{Write, Read}
 use Rattle.event.specs.declared.Answer.{Answer}
-use Rattle.event.specs.declared.Answer.the-variants.{Nothing, Refused, Acknowledged, Byte, Ticked}
+use Rattle.event.specs.declared.Answer.the-variants.{Nothing, Ticked}
 use Rattle.event.specs.declared.Tick.{Tick}
-use Rattle.event.specs.Event.{eventIn, writtenAnswer, seenAnswer, readAnswer, takenStep, steppedChip}
+use Rattle.event.specs.Event.{steppedChip}
 use Rattle.event.specs.Run.{answersTo}
 use Rattle.event.specs.Session.{session, answers, session-answers}
 
@@ -44,11 +33,6 @@ module _ (t : Tick) where
   unfolding answers
   fourth-errors e = let f = rw session-answers at e in cc
 
--- "one that refuses every line": the first K is taken
-pub refuses-all : (n : ℕ) → answer 1 ≡ Refused n → ⊥
-unfolding answers
-refuses-all n e = let f = rw session-answers at e in never (cc)
-
 -- "one that always answers 256 and no error": the second K has no 256
 pub always-256 : (t : Tick) → t .duty1 ≡ 256 → answer 4 ≡ Ticked t → ⊥
 always-256 t d e = omega (arith, second-duty t e)
@@ -58,15 +42,10 @@ pub does-nothing : answersTo (powerOn defaultSetup) session ≡ map (λ e. stepp
 unfolding answersTo session answers
 does-nothing e = never (fourth-errors _ (ap (λ (l : List Answer). getD l 8 Nothing) e ∙ ap (λ (l : List Answer). getD l 0 Nothing) session-answers))
 
--- and what is written is read: BFh has 00h at power-on, and 01h after W 2C BF 01
-pub write-is-read : answersTo (powerOn defaultSetup) (Read 0x2C 0xBF ∷ Write 0x2C 0xBF 0x01 ∷ Read 0x2C 0xBF ∷ []) ≡ Byte 0x00 ∷ Acknowledged true ∷ Byte 0x01 ∷ []
-unfolding answersTo steppedChip eventIn takenStep writtenAnswer seenAnswer readAnswer wroteByte readByte transacted transactedPin latchAfter latchBy isOurs slaveAddress wroteRegister changed changeOf changeHome changeKind isShut stored storedByte shownRegister shownHome shownKind registerAt withRegister homeOf homes kindOf writableOf writables lockMarked lockMarks isSet powerOn defaultSetup defaults
-write-is-read = refl
-
 -- "One that runs the tables on the first tick only breaks demand 2 at the second K above"
 pub first-tick-only : (t u : Tick) → u .duty1 ≡ t .duty1 → answer 1 ≡ Ticked t → answer 4 ≡ Ticked u → ⊥
 first-tick-only t u d e f = omega (arith, first-duty t e, second-duty u f)
 
--- "so does a made-up error count at the fourth": 0 is made up there
-pub made-up-errors : (t : Tick) → t .errors ≡ 0 → answer 9 ≡ Ticked t → ⊥
-made-up-errors t d e = omega (arith, fourth-errors t e)
+-- "so does a made-up error count at the fourth": any number but the definition's
+pub made-up-errors : (t : Tick) → (t .errors ≡ 1 → ⊥) → answer 9 ≡ Ticked t → ⊥
+made-up-errors t made-up e = made-up (fourth-errors t e)

@@ -7,11 +7,11 @@ use Rattle.bench.proofs.flush.Tie as tie
 smaller-requires : tie.Need-smaller-requires
 smaller-requires c κs = search needs
 
-slice-aggregate-write-all : tie.Need-slice-aggregate-write-all
-slice-aggregate-write-all c = sym (length-take-le _ _ (search needs))
+slice-aggregate-write-out : tie.Need-slice-aggregate-write-out
+slice-aggregate-write-out c = sym (length-take-le _ _ (search needs))
 
-write-all-requires : tie.Need-write-all-requires
-write-all-requires c κs = search needs
+write-out-requires : tie.Need-write-out-requires
+write-out-requires c κs = search needs
 
 returns : tie.Need-returns
 returns c = search needs
@@ -22,4 +22,4 @@ returns-2 c = search needs
 pub flush-spec : {M : Type 1} → statement M
 flush-spec =
     tie.close
-    (tie.spec smaller-requires slice-aggregate-write-all write-all-requires returns returns-2)
+    (tie.spec smaller-requires slice-aggregate-write-out write-out-requires returns returns-2)

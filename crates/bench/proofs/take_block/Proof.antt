@@ -70,60 +70,29 @@ make-room-requires c κs = search needs
 smaller-requires : tie.Need-smaller-requires Inv-loop μ-loop
 smaller-requires c κs = search needs
 
-sub-ask : tie.Need-sub-ask Inv-loop μ-loop
-sub-ask c = search needs
+sub-take-line : tie.Need-sub-take-line Inv-loop μ-loop
+sub-take-line c = search needs
 
-ask-requires : tie.Need-ask-requires Inv-loop μ-loop
-ask-requires c κs = search needs
+part-take-line-start : tie.Need-part-take-line-start Inv-loop μ-loop
+part-take-line-start c = search needs
 
-sub-take-setup : tie.Need-sub-take-setup Inv-loop μ-loop
-sub-take-setup c = search needs
+part-take-line-end : tie.Need-part-take-line-end Inv-loop μ-loop
+part-take-line-end c = search needs
 
-part-take-setup-start : tie.Need-part-take-setup-start Inv-loop μ-loop
-part-take-setup-start c = search needs
-
-part-take-setup-end : tie.Need-part-take-setup-end Inv-loop μ-loop
-part-take-setup-end c = search needs
-
-take-setup-requires : tie.Need-take-setup-requires Inv-loop μ-loop
-take-setup-requires c κs = search needs
+take-line-requires : tie.Need-take-line-requires Inv-loop μ-loop
+take-line-requires c κs = search needs
 
 after-line-requires : tie.Need-after-line-requires Inv-loop μ-loop
 after-line-requires c κs = search needs
 
 loop-less : tie.Need-loop-less Inv-loop μ-loop
 loop-less c =
-    let w = c .before .before .before .before .before .before .before .before .before .before .before .before .before .before .before .before .before .before in
+    let w = c .before .before .before .before .before .before .before .before .before .before .before .before .before .before .before .before in
     omega (arith, w)
 
 loop-again : tie.Need-loop-again Inv-loop μ-loop
 loop-again c =
-    let w = c .before .before .before .before .before .before .before .before .before .before .before .before .before .before .before .before .before .before in
-    (omega (arith, w), omega (arith, w), search needs)
-
-sub-take-asked : tie.Need-sub-take-asked Inv-loop μ-loop
-sub-take-asked c = search needs
-
-part-take-asked-start : tie.Need-part-take-asked-start Inv-loop μ-loop
-part-take-asked-start c = search needs
-
-part-take-asked-end : tie.Need-part-take-asked-end Inv-loop μ-loop
-part-take-asked-end c = search needs
-
-take-asked-requires : tie.Need-take-asked-requires Inv-loop μ-loop
-take-asked-requires c κs = search needs
-
-after-line-requires-2 : tie.Need-after-line-requires-2 Inv-loop μ-loop
-after-line-requires-2 c κs = search needs
-
-loop-less-2 : tie.Need-loop-less-2 Inv-loop μ-loop
-loop-less-2 c =
-    let w = c .before .before .before .before .before .before .before .before .before .before .before .before .before .before .before .before .before .before in
-    omega (arith, w)
-
-loop-again-2 : tie.Need-loop-again-2 Inv-loop μ-loop
-loop-again-2 c =
-    let w = c .before .before .before .before .before .before .before .before .before .before .before .before .before .before .before .before .before .before in
+    let w = c .before .before .before .before .before .before .before .before .before .before .before .before .before .before .before .before in
     (omega (arith, w), omega (arith, w), search needs)
 
 sub-keep : tie.Need-sub-keep Inv-loop μ-loop
@@ -138,11 +107,11 @@ part-keep-end c = search needs
 keep-requires : tie.Need-keep-requires Inv-loop μ-loop
 keep-requires c κs = search needs
 
-loop-less-3 : tie.Need-loop-less-3 Inv-loop μ-loop
-loop-less-3 c = search needs
+loop-less-2 : tie.Need-loop-less-2 Inv-loop μ-loop
+loop-less-2 c = search needs
 
-loop-again-3 : tie.Need-loop-again-3 Inv-loop μ-loop
-loop-again-3 c = search needs
+loop-again-2 : tie.Need-loop-again-2 Inv-loop μ-loop
+loop-again-2 c = search needs
 
 same-length : tie.Need-same-length Inv-loop μ-loop
 same-length c = search needs
@@ -178,28 +147,19 @@ take-block-spec =
     add-i
     make-room-requires
     smaller-requires
-    sub-ask
-    ask-requires
-    sub-take-setup
-    part-take-setup-start
-    part-take-setup-end
-    take-setup-requires
+    sub-take-line
+    part-take-line-start
+    part-take-line-end
+    take-line-requires
     after-line-requires
     loop-less
     loop-again
-    sub-take-asked
-    part-take-asked-start
-    part-take-asked-end
-    take-asked-requires
-    after-line-requires-2
-    loop-less-2
-    loop-again-2
     sub-keep
     part-keep-start
     part-keep-end
     keep-requires
-    loop-less-3
-    loop-again-3
+    loop-less-2
+    loop-again-2
     same-length
     same-length-2
     returns)

@@ -7,11 +7,8 @@ use Rattle.bench.proofs.turn.Tie as tie
 flush-requires : tie.Need-flush-requires
 flush-requires c κs = search needs
 
-read-requires : tie.Need-read-requires
-read-requires c κs = search needs
-
-count-requires : tie.Need-count-requires
-count-requires c κs = search needs
+read-in-requires : tie.Need-read-in-requires
+read-in-requires c κs = search needs
 
 end-block-requires : tie.Need-end-block-requires
 end-block-requires c κs = search needs
@@ -63,8 +60,7 @@ turn-spec =
     tie.close
     (tie.spec
     flush-requires
-    read-requires
-    count-requires
+    read-in-requires
     end-block-requires
     slice-reshare-prefix-take-block
     slice-aggregate-take-block

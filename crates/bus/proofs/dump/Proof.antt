@@ -1,8 +1,7 @@
 -- `bus::dump` meets its contract: the buffer is filled from the front with what byte reads show. Assumes nothing.
 use mathlib.Core.Path.{_≡_, refl, ap, _∙_}
 use mathlib.Core.List.{_++_}
-use Prim.Native.Nat.{_-_, _≤_, _<_}
-use native.Mathlib.Nat.{mod-eq-of-lt}
+use Prim.Native.Nat.{_-_, _≤_}
 use native.Mathlib.Omega.{arith}
 use lib.ListN.{length, drop, length-set}
 use borrow.Author.Needs.{needs}
@@ -46,12 +45,11 @@ loop-less c = omega arith
 loop-again : tie.Need-loop-again Inv-loop μ-loop
 loop-again c =
     let i = c .before .before .loop .i in
-    let inside : i < 256 = omega arith in
     let inv = c .before .before .loop .inv in (
       omega arith,
       inv .1,
       simp length-set (inv .2),
-      tab-more (shownRegister _) i _ _ (omega arith) (c .show-register .ensures ∙ ap (shownRegister _) (mod-eq-of-lt inside)) (inv .3),
+      tab-more (shownRegister _) i _ _ (omega arith) (c .show-register .ensures ∙ ap (shownRegister _) (omega arith)) (inv .3),
     )
 
 same-length : tie.Need-same-length Inv-loop μ-loop

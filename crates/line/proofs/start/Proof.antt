@@ -1,3 +1,5 @@
+use Rattle.state.specs.Valid.{default-valid}
+use Rattle.state.specs.Powered.{poweredOn, valid-powered}
 use Rattle.line.specs.Line.{startSession}
 use borrow.Author.Needs.{needs}
 use Rattle.line.proofs.start.Statement.{statement}
@@ -10,8 +12,8 @@ power-on-requires : tie.Need-power-on-requires
 power-on-requires c κs = search needs
 
 returns : tie.Need-returns
-unfolding startSession
-returns c = rw (c .power-on .ensures, c .before .default-setup .ensures)
+unfolding startSession poweredOn
+returns c = rw (c .before .power-on .ensures, c .before .before .default-setup .ensures, valid-powered _ _ default-valid)
 
 pub start-spec : {M : Type 1} → statement M
 start-spec = tie.close (tie.spec default-setup-requires power-on-requires returns)

@@ -1,50 +1,68 @@
-use mathlib.Core.Path.{sym, ap, _∙_}
+use mathlib.Core.Path.{sym, _∙_}
 use denote.Ref.{now}
+use Rattle.line.specs.Comes.{setup-comes, refused-comes, event-comes}
 use borrow.Author.Needs.{needs}
-use Rattle.line.specs.declared.Asked.{Asked}
-use Rattle.line.specs.Asked.{asked-taken, asked-buffer, setup-taken, setup-buffer}
 use Rattle.line.proofs.take_line.Statement.{statement}
 use Rattle.line.proofs.take_line.Tie as tie
 
 ask-requires : tie.Need-ask-requires
 ask-requires c κs = search needs
 
+enum-told : tie.Need-enum-told
+enum-told c = search needs
+
 take-setup-requires : tie.Need-take-setup-requires
 take-setup-requires c κs = search needs
+
+enum-known-asked : tie.Need-enum-known-asked
+enum-known-asked c = search needs
+
+refuse-requires : tie.Need-refuse-requires
+refuse-requires c κs = search needs
+
+enum-known-asked-2 : tie.Need-enum-known-asked-2
+enum-known-asked-2 c = search needs
+
+take-event-requires : tie.Need-take-event-requires
+take-event-requires c κs = search needs
+
+returns : tie.Need-returns
+returns c =
+    let asked = c .before .before .before in
+    let given = asked .before .before .before .args in
+    let k = setup-comes (given .session) (now (given .line)) (now (given .out)) (sym (asked .ask .ensures) ∙ c .before .enum-told .given .1) in
+    (c .take-setup .ensures ∙ sym (k .taken), sym (k .buffer))
+
+returns-2 : tie.Need-returns-2
+returns-2 c =
+    let asked = c .before .before .before .before in
+    let given = asked .before .before .before .args in
+    let k = refused-comes (given .session) (now (given .line)) (now (given .out)) _ (sym (asked .ask .ensures) ∙ c .before .before .asked .given .1) in
+    (c .refuse .ensures ∙ sym (k .taken), sym (k .buffer))
 
 same-length : tie.Need-same-length
 same-length c = search needs
 
-returns : tie.Need-returns
-returns c =
-    let asked = c .before .before .before .before .before in
+returns-3 : tie.Need-returns-3
+returns-3 c =
+    let asked = c .before .before .before .before .before .before .before .before in
     let given = asked .before .before .before .args in
-    let h = ap (λ (a : Asked). a .setup) (sym (asked .ask .ensures)) ∙ c .before .before .before .before .if1 .taken in
-    let t = c .before .before .take-setup .ensures in
-    (t .0 ∙ sym (setup-taken (given .session) (now (given .line)) (now (given .out)) h), t .1 ∙ sym (setup-buffer (given .session) (now (given .line)) (now (given .out)) h))
-
-take-asked-requires : tie.Need-take-asked-requires
-take-asked-requires c κs = search needs
-
-same-length-2 : tie.Need-same-length-2
-same-length-2 c = search needs
-
-returns-2 : tie.Need-returns-2
-returns-2 c =
-    let asked = c .before .before .before .before .before in
-    let given = asked .before .before .before .args in
-    let h = ap (λ (a : Asked). a .setup) (sym (asked .ask .ensures)) ∙ c .before .before .before .before .if1 .left in
-    let t = c .before .before .take-asked .ensures in
-    (rw (asked-taken (given .session) (now (given .line)) (now (given .out)) h, ← asked .ask .ensures) (t .0), rw (asked-buffer (given .session) (now (given .line)) (now (given .out)) h, ← asked .ask .ensures) (t .1))
+    let k = event-comes (given .session) (now (given .line)) (now (given .out)) _ (sym (asked .ask .ensures) ∙ c .before .before .before .before .before .before .asked2 .given .1) in
+    let t = c .before .before .take-event .ensures in
+    (t .0 ∙ sym (k .taken), t .1 ∙ sym (k .buffer))
 
 pub take-line-spec : {M : Type 1} → statement M
 take-line-spec =
     tie.close
     (tie.spec
     ask-requires
+    enum-told
     take-setup-requires
-    same-length
+    enum-known-asked
+    refuse-requires
+    enum-known-asked-2
+    take-event-requires
     returns
-    take-asked-requires
-    same-length-2
-    returns-2)
+    returns-2
+    same-length
+    returns-3)

@@ -15,8 +15,8 @@ count-of-requires c κs = search needs
 count-of-requires-2 : tie.Need-count-of-requires-2
 count-of-requires-2 c κs = search needs
 
-reading-of-requires : tie.Need-reading-of-requires
-reading-of-requires c κs = search needs
+spelled-reading-requires : tie.Need-spelled-reading-requires
+spelled-reading-requires c κs = search needs
 
 count-of-requires-3 : tie.Need-count-of-requires-3
 count-of-requires-3 c κs = search needs
@@ -31,7 +31,7 @@ returns-2 c = rw (c .before .match .keys2, c .before .before .index-of .ensures,
 
 returns-3 : tie.Need-returns-3
 unfolding clampedParsed clampedEvent pairLine temperatureLine
-returns-3 c = rw (c .before .match .keys3, c .before .before .index-of .ensures, c .reading-of .ensures)
+returns-3 c = rw (c .before .match .keys3, c .before .before .index-of .ensures, c .spelled-reading .ensures)
 
 returns-4 : tie.Need-returns-4
 unfolding clampedParsed clampedEvent pairLine voltageLine
@@ -50,7 +50,7 @@ pair-event-spec =
     index-of-requires
     count-of-requires
     count-of-requires-2
-    reading-of-requires
+    spelled-reading-requires
     count-of-requires-3
     returns
     returns-2

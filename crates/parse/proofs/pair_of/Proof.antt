@@ -4,7 +4,7 @@ use lib.Seq.{length-take-le}
 use borrow.Author.Needs.{needs}
 use Rattle.text.specs.Walk.{first-take}
 use Rattle.parse.specs.Clamped.{saturatedPair}
-use Rattle.parse.specs.Walked.{behind, pair-one, pair-two, pair-three, pair-more}
+use Rattle.parse.specs.Walked.{behind, pair-one, pair-two, pair-rest}
 use Rattle.parse.specs.Held.{both-held}
 use Rattle.parse.proofs.pair_of.Statement.{statement}
 use Rattle.parse.proofs.pair_of.Tie as tie
@@ -49,18 +49,8 @@ part-last-start c = search needs
 part-last-end : tie.Need-part-last-end
 part-last-end c = search needs
 
-width-requires-3 : tie.Need-width-requires-3
-width-requires-3 c κs = search needs
-
-returns-3 : tie.Need-returns-3
-unfolding saturatedPair
-returns-3 c =
-    let b = behind _ _ (c .before .before .before .before .before .before .before .width .ensures .1) (omega arith) in
-    let d = behind _ _ (c .before .before .before .before .width2 .ensures .1) (omega arith) in
-    rw (pair-more b d (omega arith))
-
 slice-aggregate-decimal : tie.Need-slice-aggregate-decimal
-slice-aggregate-decimal c = sym (length-take-le _ _ (c .before .before .before .before .before .width2 .ensures .0))
+slice-aggregate-decimal c = sym (length-take-le _ _ (c .before .before .before .width2 .ensures .0))
 
 decimal-requires : tie.Need-decimal-requires
 decimal-requires c κs = search needs
@@ -71,12 +61,12 @@ decimal-requires-2 c κs = search needs
 both-requires : tie.Need-both-requires
 both-requires c κs = search needs
 
-returns-4 : tie.Need-returns-4
-returns-4 c =
-    let n = c .before .before .before .before .before .before .before .before in
+returns-3 : tie.Need-returns-3
+returns-3 c =
+    let n = c .before .before .before .before .before .before in
     let b = behind _ _ (n .before .before .before .width .ensures .1) (omega arith) in
     let d = behind _ _ (n .width2 .ensures .1) (omega arith) in
-    rw (pair-three b d (omega arith), both-held, first-take, ← n .width2 .ensures .1, ← c .before .before .decimal .ensures, ← c .before .decimal2 .ensures)
+    rw (pair-rest b d, both-held, first-take, ← n .width2 .ensures .1, ← c .before .before .decimal .ensures, ← c .before .decimal2 .ensures)
     (c .both .ensures)
 
 pub pair-of-spec : {M : Type 1} → statement M
@@ -95,10 +85,8 @@ pair-of-spec =
     sub-last
     part-last-start
     part-last-end
-    width-requires-3
-    returns-3
     slice-aggregate-decimal
     decimal-requires
     decimal-requires-2
     both-requires
-    returns-4)
+    returns-3)

@@ -4,16 +4,16 @@ use Rattle.sense.specs.Errors.{voltageFile}
 use Rattle.sense.proofs.compare_voltage.Statement.{statement}
 use Rattle.sense.proofs.compare_voltage.Tie as tie
 
-compare-volt-requires : tie.Need-compare-volt-requires
-compare-volt-requires c κs = search needs
+mark-if-outside-requires : tie.Need-mark-if-outside-requires
+mark-if-outside-requires c κs = search needs
 
 returns : tie.Need-returns
 unfolding voltageFile
-returns c = rw (lt-ltb _ _ (c .before .before .if1 .taken)) (c .compare-volt .ensures)
+returns c = rw (lt-ltb _ _ (c .before .before .if1 .taken)) (c .mark-if-outside .ensures)
 
 returns-2 : tie.Need-returns-2
 unfolding voltageFile
 returns-2 c = rw (le-ltb _ _ (c .if1 .left))
 
 pub compare-voltage-spec : {M : Type 1} → statement M
-compare-voltage-spec = tie.close (tie.spec compare-volt-requires returns returns-2)
+compare-voltage-spec = tie.close (tie.spec mark-if-outside-requires returns returns-2)

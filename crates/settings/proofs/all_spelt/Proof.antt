@@ -1,31 +1,28 @@
--- `settings::all_spelt` meets its contract: each of the numbers passed is spelled right. Assumes nothing.
-use mathlib.Core.Path.{_≡_, sym}
-use mathlib.Core.Bool.{Bool, true, false}
-use mathlib.Core.List.{List}
-use Prim.Native.Nat.{ℕ, _-_, _≤_}
+use mathlib.Core.Path.{sym, _∙_}
+use Prim.Native.Nat.{_-_}
 use native.Mathlib.Omega.{arith}
 use borrow.Author.Needs.{needs}
-use Rattle.laws.specs.Every.{every, every-none, every-more, every-stop}
+use Rattle.laws.specs.Tried.{Tried, tried-none, tried-more, tried-stop, tried-all}
 use Rattle.text.specs.Number.{isSpelt}
-use Rattle.settings.specs.declared.Entry.{Entry}
+use Rattle.settings.specs.Places.{NUMBERS}
 use Rattle.settings.specs.Entries.{entryIn}
 use Rattle.settings.proofs.all_spelt.Statement.{statement}
 use Rattle.settings.proofs.all_spelt.Tie as tie
 
-abbrev spelt : List Entry → ℕ → Bool
-spelt es k = isSpelt (entryIn es k)
-
 abbrev Inv-loop : tie.InvT-loop
-Inv-loop entries k₀ k = (k ≤ 59) × (every k (spelt entries) ≡ true)
+Inv-loop entries k₀ k = Tried (λ j. isSpelt (entryIn entries j)) NUMBERS k
 
 abbrev μ-loop : tie.MeasureT-loop
-μ-loop entries k₀ k = 59 - k
+μ-loop entries k₀ k = NUMBERS - k
 
 loop-holds : tie.Need-loop-holds Inv-loop μ-loop
-loop-holds c = (omega arith, every-none _)
+loop-holds c = tried-none
 
-number-in-requires : tie.Need-number-in-requires Inv-loop μ-loop
-number-in-requires c κs = search needs
+mul-entry : tie.Need-mul-entry Inv-loop μ-loop
+mul-entry c = search needs
+
+array-copy-out-entry : tie.Need-array-copy-out-entry Inv-loop μ-loop
+array-copy-out-entry c = search needs
 
 is-spelt-requires : tie.Need-is-spelt-requires Inv-loop μ-loop
 is-spelt-requires c κs = search needs
@@ -37,24 +34,15 @@ loop-less : tie.Need-loop-less Inv-loop μ-loop
 loop-less c = omega arith
 
 loop-again : tie.Need-loop-again Inv-loop μ-loop
-loop-again c =
-    let at = c .before .before .before .before in
-    let p = spelt (at .before .args .entries) in
-    let h : p (at .loop .k) ≡ true = cc in
-    (omega arith, every-more p (at .loop .k) (at .loop .inv .1) h)
+unfolding entryIn
+loop-again c = tried-more (c .before .before .before .before .loop .inv) (omega arith) (sym (c .before .is-spelt .ensures) ∙ c .if1 .taken)
 
 returns : tie.Need-returns Inv-loop μ-loop
-returns c =
-    let at = c .before .before .before .before in
-    let p = spelt (at .before .args .entries) in
-    let h : p (at .loop .k) ≡ false = cc in
-    sym (every-stop p (at .loop .k) 59 (omega arith) h)
+unfolding entryIn
+returns c = tried-stop (c .before .before .before .before .loop .inv) (omega arith) (sym (c .before .is-spelt .ensures) ∙ c .if1 .left)
 
 returns-2 : tie.Need-returns-2 Inv-loop μ-loop
-returns-2 c =
-    let at = c .before in
-    let e : at .loop .k ≡ 59 = omega arith in
-    sym (rw e at (at .loop .inv .1))
+returns-2 c = tried-all (c .before .loop .inv) (omega arith)
 
 pub all-spelt-spec : {M : Type 1} → statement M
 all-spelt-spec =
@@ -63,7 +51,8 @@ all-spelt-spec =
     Inv-loop
     μ-loop
     loop-holds
-    number-in-requires
+    mul-entry
+    array-copy-out-entry
     is-spelt-requires
     add-k
     loop-less

@@ -1,58 +1,66 @@
+use Prim.Native.Nat.{_+_, _-_}
+use native.Mathlib.Omega.{arith}
 use mir.Syntax.{w8}
-use mir.Val.{SFits}
 use mir.Facts.{toZ-ofZ}
 use borrow.Author.Needs.{needs}
-use Rattle.laws.specs.Tab.{tab}
+use Rattle.settings.specs.Places.{BASES}
+use Rattle.settings.specs.Entries.{entryIn, heldDegrees}
+use Rattle.settings.proofs.Filled.{Filled, filled-none, filled-more, filled-all}
 use Rattle.settings.proofs.bases_from.Statement.{statement}
 use Rattle.settings.proofs.bases_from.Tie as tie
 
-number-in-requires : tie.Need-number-in-requires
-number-in-requires c κs = search needs
+abbrev Inv-loop : tie.InvT-loop
+Inv-loop entries bases₀ k₀ bases k = Filled (λ j. heldDegrees (entryIn entries (BASES + j))) bases₀ bases k
 
-degrees-of-requires : tie.Need-degrees-of-requires
-degrees-of-requires c κs = search needs
+abbrev μ-loop : tie.MeasureT-loop
+μ-loop entries bases₀ k₀ bases k = 4 - k
 
-number-in-requires-2 : tie.Need-number-in-requires-2
-number-in-requires-2 c κs = search needs
+loop-holds : tie.Need-loop-holds Inv-loop μ-loop
+loop-holds c = filled-none
 
-degrees-of-requires-2 : tie.Need-degrees-of-requires-2
-degrees-of-requires-2 c κs = search needs
+add-entry : tie.Need-add-entry Inv-loop μ-loop
+add-entry c = search needs
 
-number-in-requires-3 : tie.Need-number-in-requires-3
-number-in-requires-3 c κs = search needs
+mul-entry : tie.Need-mul-entry Inv-loop μ-loop
+mul-entry c = search needs
 
-degrees-of-requires-3 : tie.Need-degrees-of-requires-3
-degrees-of-requires-3 c κs = search needs
+array-copy-out-entry : tie.Need-array-copy-out-entry Inv-loop μ-loop
+array-copy-out-entry c = search needs
 
-number-in-requires-4 : tie.Need-number-in-requires-4
-number-in-requires-4 c κs = search needs
+held-degrees-requires : tie.Need-held-degrees-requires Inv-loop μ-loop
+held-degrees-requires c κs = search needs
 
-degrees-of-requires-4 : tie.Need-degrees-of-requires-4
-degrees-of-requires-4 c κs = search needs
+array-set-from-bases : tie.Need-array-set-from-bases Inv-loop μ-loop
+array-set-from-bases c = search needs
 
-returns : tie.Need-returns
-unfolding tab
-returns c =
-    let a = c .before .before .before .before .before .before .degrees-of in
-    let b = c .before .before .before .before .degrees-of2 in
-    let d = c .before .before .degrees-of3 in
-    let e = c .degrees-of4 in
-    let fa : SFits w8 (a .result) = record { sfits = a .ok } in
-    let fb : SFits w8 (b .result) = record { sfits = b .ok } in
-    let fd : SFits w8 (d .result) = record { sfits = d .ok } in
-    let fe : SFits w8 (e .result) = record { sfits = e .ok } in
-    rw (toZ-ofZ fa, toZ-ofZ fb, toZ-ofZ fd, toZ-ofZ fe) (cc)
+add-k : tie.Need-add-k Inv-loop μ-loop
+add-k c = search needs
+
+loop-less : tie.Need-loop-less Inv-loop μ-loop
+loop-less c = omega arith
+
+loop-again : tie.Need-loop-again Inv-loop μ-loop
+unfolding entryIn
+loop-again c =
+    filled-more (c .before .before .before .loop .inv) (omega arith)
+    (rw (toZ-ofZ {w = w8} (record { sfits = c .held-degrees .ok }), c .held-degrees .ensures))
+
+returns : tie.Need-returns Inv-loop μ-loop
+returns c = filled-all (c .before .loop .inv) (omega arith)
 
 pub bases-from-spec : {M : Type 1} → statement M
 bases-from-spec =
     tie.close
     (tie.spec
-    number-in-requires
-    degrees-of-requires
-    number-in-requires-2
-    degrees-of-requires-2
-    number-in-requires-3
-    degrees-of-requires-3
-    number-in-requires-4
-    degrees-of-requires-4
+    Inv-loop
+    μ-loop
+    loop-holds
+    add-entry
+    mul-entry
+    array-copy-out-entry
+    held-degrees-requires
+    array-set-from-bases
+    add-k
+    loop-less
+    loop-again
     returns)

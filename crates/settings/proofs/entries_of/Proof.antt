@@ -1,18 +1,19 @@
 -- `settings::entries_of` meets its contract: at turn k the walk stands where number k begins, and k entries are filled in. Assumes nothing.
-use mathlib.Core.Path.{_≡_, refl, ap, _∙_}
-use mathlib.Core.List.{List, _++_}
+use mathlib.Core.Path.{_≡_, ap, _∙_}
+use mathlib.Core.List.{List}
 use Prim.Native.Nat.{ℕ, suc, _+_, _-_, _≤_}
 use native.Mathlib.Nat.{add-zero, zero-add}
 use native.Mathlib.Omega.{arith}
 use lib.ListN.{length, drop}
 use denote.Ref.{now}
 use borrow.Author.Needs.{needs}
-use Rattle.laws.specs.Tab.{tab, tab-none, tab-more, tab-done}
 use Rattle.text.specs.Fields.{fieldAt}
 use Rattle.text.specs.Number.{saturated}
 use Rattle.settings.specs.declared.Entry.{Entry}
+use Rattle.settings.specs.Places.{NUMBERS}
 use Rattle.settings.specs.Settings.{settingAt}
 use Rattle.settings.specs.Entries.{entriesOf}
+use Rattle.settings.proofs.Filled.{Filled, filled-none, filled-more, filled-all}
 use Rattle.settings.proofs.entries_of.Statement.{statement}
 use Rattle.settings.proofs.entries_of.Tie as tie
 
@@ -24,16 +25,16 @@ abbrev Stands : List ℕ → ℕ → ℕ → Type 0
 Stands s at k = (j : ℕ) → fieldAt (drop at s) j ≡ fieldAt s (suc (j + k))
 
 abbrev Inv-loop : tie.InvT-loop
-Inv-loop line entries₀ at₀ k₀ entries at k = (k ≤ 59) × (at ≤ length line) × (length entries₀ ≡ 59) × Stands line at k × (entries ≡ tab (entry line) k ++ drop k entries₀)
+Inv-loop line entries₀ at₀ k₀ entries at k = (at ≤ length line) × Stands line at k × Filled (entry line) entries₀ entries k
 
 abbrev μ-loop : tie.MeasureT-loop
-μ-loop line entries₀ at₀ k₀ entries at k = 59 - k
+μ-loop line entries₀ at₀ k₀ entries at k = NUMBERS - k
 
 next-field-requires : tie.Need-next-field-requires Inv-loop μ-loop
 next-field-requires c κs = search needs
 
 loop-holds : tie.Need-loop-holds Inv-loop μ-loop
-loop-holds c = (omega arith, c .next-field .ensures .0, refl, λ j. rw add-zero (c .next-field .ensures .1 j), tab-none _ _)
+loop-holds c = (c .next-field .ensures .0, λ j. rw add-zero (c .next-field .ensures .1 j), filled-none)
 
 number-from-requires : tie.Need-number-from-requires Inv-loop μ-loop
 number-from-requires c κs = search needs
@@ -60,17 +61,15 @@ loop-again c =
     let s = now (at .before .before .before .args .line) in
     let k = at .loop .k in
     let step : (j : ℕ) → suc (suc j + k) ≡ suc (j + (k + 1)) = λ j. omega arith in
-    let first : fieldAt (drop (at .loop .at) s) 0 ≡ fieldAt s (suc k) = at .loop .inv .3 0 ∙ rw zero-add in (
-      omega arith,
+    let first : fieldAt (drop (at .loop .at) s) 0 ≡ fieldAt s (suc k) = at .loop .inv .1 0 ∙ rw zero-add in (
       c .next-field2 .ensures .0,
-      refl,
-      λ j. c .next-field2 .ensures .1 j ∙ at .loop .inv .3 (suc j) ∙ ap (fieldAt s) (step j),
-      tab-more (entry s) k _ _ (omega arith) (rw (c .before .number-from .ensures, first)) (at .loop .inv .4),
+      λ j. c .next-field2 .ensures .1 j ∙ at .loop .inv .1 (suc j) ∙ ap (fieldAt s) (step j),
+      filled-more (at .loop .inv .2) (omega arith) (rw (c .before .number-from .ensures, first)),
     )
 
 returns : tie.Need-returns Inv-loop μ-loop
 unfolding entriesOf
-returns c = tab-done _ 59 _ _ (c .before .loop .inv .4) (omega arith) (omega arith)
+returns c = filled-all (c .before .loop .inv .2) (omega arith)
 
 pub entries-of-spec : {M : Type 1} → statement M
 entries-of-spec =

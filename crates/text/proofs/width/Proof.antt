@@ -1,61 +1,14 @@
--- `text::width` meets its contract: the bytes passed and the first field of what is left are the first field. Assumes nothing.
-use mathlib.Core.Path.{_≡_, ap}
-use Prim.Native.Nat.{_+_, _-_, _≤_}
-use native.Mathlib.Omega.{arith}
-use lib.ListN.{length, drop}
-use denote.Ref.{now}
+use mathlib.Core.Path.{_∙_}
 use borrow.Author.Needs.{needs}
-use Rattle.text.specs.Fields.{firstField}
-use Rattle.text.specs.Walk.{first-left-tab, first-left-byte, first-left-none}
+use Rattle.text.specs.Widths.{field-width}
 use Rattle.text.proofs.width.Statement.{statement}
 use Rattle.text.proofs.width.Tie as tie
 
-abbrev Inv-loop : tie.InvT-loop
-Inv-loop s i₀ i = (i ≤ length s) × (i + length (firstField (drop i s)) ≡ length (firstField s))
+width-before-requires : tie.Need-width-before-requires
+width-before-requires c κs = search needs
 
-abbrev μ-loop : tie.MeasureT-loop
-μ-loop s i₀ i = length s - i
-
-loop-holds : tie.Need-loop-holds Inv-loop μ-loop
-loop-holds c = search needs
-
-shared-slice-read-if1 : tie.Need-shared-slice-read-if1 Inv-loop μ-loop
-shared-slice-read-if1 c = omega arith
-
-returns : tie.Need-returns Inv-loop μ-loop
-returns c =
-    let at = c .before .before .before in
-    let e = ap length (first-left-tab (now (at .before .args .s)) (at .loop .i) (c .before .before .loop-test .taken) (c .if1 .taken)) in
-    (omega arith, omega arith)
-
-add-i : tie.Need-add-i Inv-loop μ-loop
-add-i c = omega arith
-
-loop-less : tie.Need-loop-less Inv-loop μ-loop
-loop-less c = omega arith
-
-loop-again : tie.Need-loop-again Inv-loop μ-loop
-loop-again c =
-    let at = c .before .before .before in
-    let e = ap length (first-left-byte (now (at .before .args .s)) (at .loop .i) (c .before .before .loop-test .taken) (c .if1 .left)) in
-    (omega arith, omega arith)
-
-returns-2 : tie.Need-returns-2 Inv-loop μ-loop
-returns-2 c =
-    let at = c .before in
-    let e = ap length (first-left-none (now (at .before .args .s)) (at .loop .i) (c .loop-test .left)) in
-    (omega arith, omega arith)
+returns : tie.Need-returns
+returns c = (c .width-before .ensures .0, c .width-before .ensures .1 ∙ field-width _)
 
 pub width-spec : {M : Type 1} → statement M
-width-spec =
-    tie.close
-    (tie.spec
-    Inv-loop
-    μ-loop
-    loop-holds
-    shared-slice-read-if1
-    returns
-    add-i
-    loop-less
-    loop-again
-    returns-2)
+width-spec = tie.close (tie.spec width-before-requires returns)

@@ -1,0 +1,220 @@
+-- What an event keeps: no event changes the setup or how long a list of the chip is, and none but a tick changes the drive.
+-- Assumes nothing.
+use mathlib.Core.Path.{_≡_, refl, _∙_}
+use mathlib.Core.Bool.{Bool}
+use mathlib.Core.List.{List}
+use Prim.Native.Nat.{ℕ, zero, suc, _-_}
+use lib.Dec.{ltb}
+use lib.ListN.{length, length-set}
+use Rattle.laws.specs.Pointwise.{pick-each}
+use Rattle.map.specs.Names.{TEMPERATURE-SOURCE-SELECT}
+use Rattle.temperature.specs.declared.Reading.{Reading}
+use Rattle.state.specs.declared.Chip.{Chip}
+use Rattle.state.specs.declared.Zone.{Zone}
+use Rattle.state.specs.declared.Gauge.{Gauge}
+use Rattle.state.specs.declared.Pin.{Pin}
+use Rattle.state.specs.declared.Count.{Count}
+use Rattle.state.specs.declared.Count.the-variants as count
+use Rattle.state.specs.Parts.{registerAt}
+use Rattle.state.specs.With.{withRegisters, withPin, withRegister, withZone, withVolt, withFan, withHotInput}
+use Rattle.sense.specs.Errors.{withBit, markedVolt, markedFan, lowLimit, highLimit, isOutside, comparedVolt, fanLimitAt, comparedFan}
+use Rattle.sense.specs.Missing.{voltWatched, fanWatched, missedVolt, missedFan, missedVolts, missedFans, missedFile, missed}
+use Rattle.sense.specs.Events.{zoneHeard, tookTemperature, feedsThree, feedsFour, fedZone, tookVoltage, tookFan, tookHot, tookPin, resetFile, tookReset}
+use Rattle.bus.specs.Latch.{transacted}
+use Rattle.bus.specs.declared.Change.{Change}
+use Rattle.bus.specs.declared.Change.the-variants.{Nothing, Register, ZoneReading}
+use Rattle.bus.specs.Write.{changeOf, changed, wroteRegister, wroteByte}
+use Rattle.bus.specs.Read.{readByte}
+use Rattle.bus.specs.Transactions.{read-chip, write-cases}
+use Rattle.event.specs.declared.Event.{Event}
+use Rattle.event.specs.declared.Event.the-variants.{Temperature, Voltage, Fan, Hot, Pin as PinEvent, Tick, Reset, Write, Read}
+use Rattle.event.specs.declared.Stepped.{Stepped}
+use Rattle.event.specs.Event.{eventIn, quietStep, refusedStep, writtenAnswer, readAnswer, takenStep, steppedChip}
+
+-- d has the setup and the drive of c, and lists as long
+pub record SameShape (c d : Chip) : Type 0 where
+  pub setup : d .setup ≡ c .setup
+  pub registers : length (d .registers) ≡ length (c .registers)
+  pub zones : length (d .zones) ≡ length (c .zones)
+  pub volts : length (d .volts) ≡ length (c .volts)
+  pub fans : length (d .fans) ≡ length (c .fans)
+  pub hot : length (d .hot) ≡ length (c .hot)
+  pub drive : d .drive ≡ c .drive
+
+-- whatever its pin, and whatever its lists, if they are as long
+shape-but : (c : Chip) {r : List ℕ} {z : List Zone} {v f : List Gauge} {h : List Bool} {p : Pin} → length r ≡ length (c .registers) → length z ≡ length (c .zones) → length v ≡ length (c .volts) → length f ≡ length (c .fans) → length h ≡ length (c .hot) → SameShape c (record { setup = c .setup; registers = r; zones = z; volts = v; fans = f; hot = h; pin = p; drive = c .drive })
+shape-but c a b d e g = record { setup = refl; registers = a; zones = b; volts = d; fans = e; hot = g; drive = refl }
+
+shape-self : (c : Chip) → SameShape c c
+shape-self c = shape-but c refl refl refl refl refl
+
+shape-on : {c d e : Chip} → SameShape c d → SameShape d e → SameShape c e
+shape-on p q = record {
+  setup = q .setup ∙ p .setup;
+  registers = q .registers ∙ p .registers;
+  zones = q .zones ∙ p .zones;
+  volts = q .volts ∙ p .volts;
+  fans = q .fans ∙ p .fans;
+  hot = q .hot ∙ p .hot;
+  drive = q .drive ∙ p .drive;
+}
+
+-- ---- one part replaced
+
+module _ (c : Chip) where
+  shape-registers : (f : List ℕ) → length f ≡ length (c .registers) → SameShape c (withRegisters c f)
+  shape-registers f e = shape-but c e refl refl refl refl
+
+  shape-register : (a b : ℕ) → SameShape c (withRegister c a b)
+  unfolding withRegister
+  shape-register a b = shape-registers _ (length-set (c .registers) a b)
+
+  shape-zone : (i : ℕ) (r : Reading) → SameShape c (withZone c i r)
+  unfolding withZone
+  shape-zone i r = shape-but c refl (length-set (c .zones) i _) refl refl refl
+
+  shape-volt : (i : ℕ) (n : Count) → SameShape c (withVolt c i n)
+  unfolding withVolt
+  shape-volt i n = shape-but c refl refl (length-set (c .volts) i _) refl refl
+
+  shape-fan : (i : ℕ) (n : Count) → SameShape c (withFan c i n)
+  unfolding withFan
+  shape-fan i n = shape-but c refl refl refl (length-set (c .fans) i _) refl
+
+  shape-hot : (i : ℕ) (h : Bool) → SameShape c (withHotInput c i h)
+  unfolding withHotInput
+  shape-hot i h = shape-but c refl refl refl refl (length-set (c .hot) i h)
+
+  shape-pin : (p : Pin) → SameShape c (withPin c p)
+  shape-pin p = shape-but c refl refl refl refl refl
+
+-- ---- the register file stays as long
+
+abbrev AsLong : List ℕ → List ℕ → Type 0
+AsLong file f = length f ≡ length file
+
+marked-volt-long : (file : List ℕ) (i : ℕ) → AsLong file (markedVolt file i)
+unfolding markedVolt withBit
+marked-volt-long file i = simp length-set
+
+marked-fan-long : (file : List ℕ) (i : ℕ) → AsLong file (markedFan file i)
+unfolding markedFan withBit
+marked-fan-long file i = simp length-set
+
+compared-volt-long : (file : List ℕ) (i : ℕ) (n : Count) → AsLong file (comparedVolt file i n)
+unfolding comparedVolt
+compared-volt-long file i count.Missing = refl
+compared-volt-long file i (count.Taken n) = pick-each (AsLong file) (isOutside (lowLimit file i) (highLimit file i) n) (marked-volt-long file i) refl
+
+compared-fan-long : (file : List ℕ) (i : ℕ) (n : Count) → AsLong file (comparedFan file i n)
+unfolding comparedFan
+compared-fan-long file i count.Missing = refl
+compared-fan-long file i (count.Taken n) = pick-each (AsLong file) (ltb (fanLimitAt file i) n) (marked-fan-long file i) refl
+
+missed-volt-long : (file : List ℕ) (i : ℕ) (n : Count) → AsLong file (missedVolt file i n)
+unfolding missedVolt
+missed-volt-long file i count.Missing = pick-each (AsLong file) (voltWatched (lowLimit file i) (highLimit file i)) (marked-volt-long file i) refl
+missed-volt-long file i (count.Taken n) = refl
+
+missed-fan-long : (file : List ℕ) (i : ℕ) (n : Count) → AsLong file (missedFan file i n)
+unfolding missedFan
+missed-fan-long file i count.Missing = pick-each (AsLong file) (fanWatched (fanLimitAt file i)) (marked-fan-long file i) refl
+missed-fan-long file i (count.Taken n) = refl
+
+missed-volts-long : (file : List ℕ) (volts : List Gauge) (n : ℕ) → AsLong file (missedVolts file volts n)
+unfolding missedVolts
+missed-volts-long file volts zero = refl
+missed-volts-long file volts (suc n) = missed-volt-long (missedVolts file volts n) n _ ∙ missed-volts-long file volts n
+
+missed-fans-long : (file : List ℕ) (fans : List Gauge) (n : ℕ) → AsLong file (missedFans file fans n)
+unfolding missedFans
+missed-fans-long file fans zero = refl
+missed-fans-long file fans (suc n) = missed-fan-long (missedFans file fans n) n _ ∙ missed-fans-long file fans n
+
+reset-long : (file : List ℕ) → AsLong file (resetFile file)
+unfolding resetFile
+reset-long file = simp length-set
+
+-- ---- the events
+
+change-shape : (c : Chip) (d : Change) → SameShape c (changed c d)
+unfolding changed
+change-shape c Nothing = shape-self c
+change-shape c (Register a byte) = shape-register c a byte
+change-shape c (ZoneReading i r) = shape-zone c i r
+
+module _ (c : Chip) where
+  fed-shape : (channel : ℕ) (n : Count) → SameShape c (fedZone c channel n)
+  unfolding fedZone
+  fed-shape channel n =
+      pick-each (SameShape c) (feedsThree (registerAt c TEMPERATURE-SOURCE-SELECT) channel) (shape-zone c 4 _)
+      (pick-each (SameShape c) (feedsFour (registerAt c TEMPERATURE-SOURCE-SELECT) channel) (shape-zone c 5 _) (shape-self c))
+
+  transacted-shape : (address : ℕ) → SameShape c (transacted c address)
+  unfolding transacted
+  transacted-shape address = shape-pin c _
+
+  register-shape : (a byte : ℕ) → SameShape c (wroteRegister c a byte)
+  unfolding wroteRegister
+  register-shape a byte = change-shape c (changeOf c a byte)
+
+module _ (c : Chip) where
+  -- the missing marks of a tick
+  pub missed-shape : SameShape c (missed c)
+  unfolding missed missedFile
+  missed-shape = shape-registers c _ (missed-fans-long _ (c .fans) 4 ∙ missed-volts-long (c .registers) (c .volts) 16)
+
+  temperature-shape : (zone : ℕ) (r : Reading) → SameShape c (tookTemperature c zone r)
+  unfolding tookTemperature
+  temperature-shape zone r =
+      pick-each (SameShape c) (zoneHeard (registerAt c TEMPERATURE-SOURCE-SELECT) zone) (shape-zone c zone r) (shape-self c)
+
+  voltage-shape : (channel : ℕ) (n : Count) → SameShape c (tookVoltage c channel n)
+  unfolding tookVoltage withVolt
+  voltage-shape channel n =
+      pick-each (SameShape c) (ltb channel 16)
+      (shape-on (shape-on (shape-volt c channel n) (shape-registers (withVolt c channel n) _ (compared-volt-long (c .registers) channel n))) (fed-shape _ channel n))
+      (shape-self c)
+
+  fan-shape : (fan : ℕ) (n : Count) → SameShape c (tookFan c fan n)
+  unfolding tookFan withFan
+  fan-shape fan n =
+      pick-each (SameShape c) (ltb fan 4)
+      (shape-on (shape-fan c fan n) (shape-registers (withFan c fan n) _ (compared-fan-long (c .registers) fan n)))
+      (shape-self c)
+
+  hot-shape : (input : ℕ) (h : Bool) → SameShape c (tookHot c input h)
+  unfolding tookHot
+  hot-shape input h = shape-hot c input h
+
+  pin-shape : (level : ℕ) → SameShape c (tookPin c level)
+  unfolding tookPin
+  pin-shape level = shape-pin c _
+
+  reset-shape : SameShape c (tookReset c)
+  unfolding tookReset
+  reset-shape = shape-registers c _ (reset-long (c .registers))
+
+  write-shape : (address a byte : ℕ) → SameShape c (wroteByte c address a byte .chip)
+  write-shape address a byte =
+      write-cases c address (SameShape c) a byte (transacted-shape c address) (shape-on (transacted-shape c address) (register-shape (transacted c address) a byte))
+
+  read-shape : (address a : ℕ) → SameShape c (readByte c address a .chip)
+  read-shape address a = rw (read-chip c address a) (transacted-shape c address)
+
+  taken-shape : (e : Event) → (e ≡ Tick → ⊥) → SameShape c (takenStep c e .chip)
+  unfolding takenStep quietStep writtenAnswer readAnswer
+  taken-shape (Temperature zone r) h = temperature-shape (zone - 1) r
+  taken-shape (Voltage channel n) h = voltage-shape (channel - 1) n
+  taken-shape (Fan fan n) h = fan-shape (fan - 1) n
+  taken-shape (Hot input level) h = hot-shape (input - 1) _
+  taken-shape (PinEvent level) h = pin-shape _
+  taken-shape Tick h = absurd (h refl)
+  taken-shape Reset h = reset-shape
+  taken-shape (Write address a byte) h = write-shape address a byte
+  taken-shape (Read address a) h = read-shape address a
+
+  -- an event other than a tick keeps the setup, the drive and how long the lists are
+  pub event-shape : (e : Event) → (e ≡ Tick → ⊥) → SameShape c (steppedChip c e .chip)
+  unfolding steppedChip refusedStep
+  event-shape e h = pick-each (λ (s : Stepped). SameShape c (s .chip)) (eventIn e) (taken-shape e h) (shape-self c)

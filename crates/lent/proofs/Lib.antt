@@ -1,0 +1,2 @@
+-- What the proofs of the lender cite.
+pub mod Lend

@@ -1,0 +1,71 @@
+use Prim.Native.Nat.{_+_, _-_}
+use native.Mathlib.Omega.{arith}
+use lib.ListN.{length}
+use borrow.Author.Needs.{needs}
+use Rattle.settings.specs.Settings.{plainOf}
+use Rattle.settings.specs.Entries.{entryIn}
+use Rattle.settings.proofs.Filled.{Filled, filled-none, filled-more, filled-all}
+use Rattle.settings.proofs.fill_words.Statement.{statement}
+use Rattle.settings.proofs.fill_words.Tie as tie
+
+abbrev Inv-loop : tie.InvT-loop
+Inv-loop first words₀ entries k₀ words k = Filled (λ j. plainOf (entryIn entries (first + j))) words₀ words k
+
+abbrev μ-loop : tie.MeasureT-loop
+μ-loop first words₀ entries k₀ words k = length words₀ - k
+
+loop-holds : tie.Need-loop-holds Inv-loop μ-loop
+loop-holds c = filled-none
+
+add-entry : tie.Need-add-entry Inv-loop μ-loop
+add-entry c = search needs
+
+mul-entry : tie.Need-mul-entry Inv-loop μ-loop
+mul-entry c = search needs
+
+array-copy-out-entry : tie.Need-array-copy-out-entry Inv-loop μ-loop
+array-copy-out-entry c = search needs
+
+word-of-requires : tie.Need-word-of-requires Inv-loop μ-loop
+word-of-requires c κs = search needs
+
+mul-words : tie.Need-mul-words Inv-loop μ-loop
+mul-words c = search needs
+
+slice-write-words : tie.Need-slice-write-words Inv-loop μ-loop
+slice-write-words c = search needs
+
+add-k : tie.Need-add-k Inv-loop μ-loop
+add-k c = search needs
+
+loop-less : tie.Need-loop-less Inv-loop μ-loop
+loop-less c = omega arith
+
+loop-again : tie.Need-loop-again Inv-loop μ-loop
+unfolding entryIn
+loop-again c = filled-more (c .before .before .before .loop .inv) (omega arith) (c .word-of .ensures)
+
+same-length : tie.Need-same-length Inv-loop μ-loop
+same-length c = c .before .loop .inv .long
+
+returns : tie.Need-returns Inv-loop μ-loop
+returns c = filled-all (c .before .loop .inv) (omega arith)
+
+pub fill-words-spec : {M : Type 1} → statement M
+fill-words-spec =
+    tie.close
+    (tie.spec
+    Inv-loop
+    μ-loop
+    loop-holds
+    add-entry
+    mul-entry
+    array-copy-out-entry
+    word-of-requires
+    mul-words
+    slice-write-words
+    add-k
+    loop-less
+    loop-again
+    same-length
+    returns)

@@ -1,0 +1,58 @@
+-- The sensors that have limits, voltages and fans: when one is watched, and how a broken one looks at a tick. Assumes nothing.
+use mathlib.Core.Path.{_≡_}
+use mathlib.Core.Bool.{Bool, true}
+use Prim.Native.Nat.{ℕ, suc, _+_, _/_, _%_, _^_, _≤_, _<_}
+use lib.Dec.{T}
+use Rattle.map.specs.Bits.{isSet}
+use Rattle.map.specs.Names.{B-ERROR-STATUS-2, B-FAN-ERROR-STATUS, H-ERROR-STATUS-2, H-FAN-ERROR-STATUS, CONFIGURATION, GMSK}
+use Rattle.state.specs.declared.Chip.{Chip}
+use Rattle.state.specs.declared.Count.the-variants.{Taken}
+use Rattle.state.specs.Parts.{registerAt}
+use Rattle.sense.specs.Errors.{lowLimit, highLimit, fanLimitAt}
+use Rattle.sense.specs.Missing.{voltWatched, fanWatched}
+use Rattle.bus.specs.Read.{shownRegister}
+use Rattle.event.specs.declared.Event.{Event}
+use Rattle.event.specs.declared.Event.the-variants.{Voltage, Fan, Tick}
+use Rattle.event.specs.declared.Answer.the-variants.{Ticked}
+use Rattle.event.specs.declared.Tick.{Tick as Shown}
+use Rattle.event.specs.Event.{steppedChip}
+
+-- a voltage channel or a fan, each counted from 0
+pub data Sensor : Type 0 where
+  volt : (i : ℕ) → i < 16 → Sensor
+  fan : (i : ℕ) → i < 4 → Sensor
+
+-- "Not watched: a voltage with limits 00h and FFh, a fan with limit 3FFFh"
+unfoldable pub isWatched : Sensor → Chip → Bool
+isWatched (volt i l) c = voltWatched (lowLimit (c .registers) i) (highLimit (c .registers) i)
+isWatched (fan i l) c = fanWatched (fanLimitAt (c .registers) i)
+
+-- the event that gives it a taken reading: "V, channel 1 to 16", "F, fan 1 to 4"
+unfoldable pub giving : Sensor → ℕ → Event
+giving (volt i l) n = Voltage (suc i) (Taken n)
+giving (fan i l) n = Fan (suc i) (Taken n)
+
+-- where its error bit stands in the BMC group: "41h and 42h, channel 1 at bit 0 of 41h"; the fans' register is 47h
+unfoldable pub bmcRegister : Sensor → ℕ
+bmcRegister (volt i l) = B-ERROR-STATUS-2 + i / 8
+bmcRegister (fan i l) = B-FAN-ERROR-STATUS
+
+-- in the Host group: 49h and 4Ah, and 4Fh
+unfoldable pub hostRegister : Sensor → ℕ
+hostRegister (volt i l) = H-ERROR-STATUS-2 + i / 8
+hostRegister (fan i l) = H-FAN-ERROR-STATUS
+
+-- the same bit in both
+unfoldable pub errorBit : Sensor → ℕ
+errorBit (volt i l) = 2 ^ (i % 8)
+errorBit (fan i l) = 2 ^ i
+
+-- a K given to the chip: what it answers tells of an error, with ALERT unless GMSK is set, and after it reads of both groups show the
+-- sensor's bit
+pub record LooksBroken (x : Sensor) (c : Chip) : Type 0 where
+  pub tick : Shown
+  pub answers : steppedChip c Tick .answer ≡ Ticked tick
+  pub in-bmc : T (isSet (shownRegister (steppedChip c Tick .chip) (bmcRegister x)) (errorBit x))
+  pub in-host : T (isSet (shownRegister (steppedChip c Tick .chip) (hostRegister x)) (errorBit x))
+  pub alert : (T (isSet (registerAt (steppedChip c Tick .chip) CONFIGURATION) GMSK) → ⊥) → tick .alert ≡ true
+  pub errors : 1 ≤ tick .errors

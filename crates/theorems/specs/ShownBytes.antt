@@ -1,0 +1,39 @@
+-- Registers that show the byte that the register file holds. Assumes nothing.
+use mathlib.Core.Path.{_≡_}
+use mathlib.Core.Bool.{not}
+use Prim.Native.Nat.{ℕ}
+use native.Mathlib.Omega.{arith}
+use borrow.Author.Tests.{le-leb}
+use lib.Dec.{leb, eqb, eqb→eq}
+use Rattle.laws.specs.Pick.{both, either}
+use Rattle.laws.specs.Table.{entry}
+use Rattle.map.specs.declared.Kind.the-variants as kind
+use Rattle.map.specs.Names.{B-ERROR-STATUS-2, H-FAN-ERROR-STATUS}
+use Rattle.map.specs.Tables.{homes}
+use Rattle.map.specs.Map.{homeOf}
+use Rattle.map.specs.Kind.{kindOf, kind-on}
+use Rattle.state.specs.declared.Chip.{Chip}
+use Rattle.state.specs.Parts.{registerAt}
+use Rattle.sense.specs.Marks.{Status}
+use Rattle.bus.specs.Read.{shownKind, shownHome, shownRegister}
+
+-- a register that is its own home shows by its own kind
+pub own-shown : (c : Chip) (a : ℕ) → homeOf a ≡ a → shownRegister c a ≡ shownKind c a (kindOf a)
+unfolding shownRegister shownHome
+own-shown c a e = rw e
+
+-- an error status register is its own home
+status-home : (a : ℕ) → Status a → homeOf a ≡ a
+unfolding homeOf homes
+status-home a s =
+    eqb→eq (homeOf a) a
+    (rw (le-leb B-ERROR-STATUS-2 a (s .low), le-leb a H-FAN-ERROR-STATUS (s .high)) at (entry (λ k home. either (not (both (leb B-ERROR-STATUS-2 k) (leb k H-FAN-ERROR-STATUS))) (eqb home k)) homes tt a (omega arith)))
+
+-- and of the kind of 40h to 4Fh, which are rung 7
+pub status-kind : (a : ℕ) → Status a → kindOf a ≡ kind.Status
+status-kind a s = kind-on 7 a (omega arith, omega arith)
+
+-- it shows its byte
+pub status-shown : (c : Chip) (a : ℕ) → Status a → shownRegister c a ≡ registerAt c a
+unfolding shownKind
+status-shown c a s = rw (own-shown c a (status-home a s), status-kind a s)
