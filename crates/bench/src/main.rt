@@ -5,6 +5,7 @@ use libc::STDIN_FILENO;
 use libc::STDOUT_FILENO;
 use line::Reply;
 use line::Session;
+use text::BLOCK_ROOM;
 
 // Buffers: what is read at once, what is written at once, and a line that came in several reads. Of a line of more than 512 bytes the first
 // 513 are kept, by which it is refused.
@@ -13,9 +14,6 @@ const INPUT: usize = 16384;
 const OUTPUT: usize = 16384;
 
 const LINE: usize = 513;
-
-// Room for an answer and for a refusal.
-const ROOM: usize = 128;
 
 const LINE_FEED: u8 = 10;
 
@@ -59,10 +57,10 @@ fn flush(desk: Desk, out: &[u8]) -> Desk {
     next
 }
 
-// Writes what waits where another line's print might not fit behind it.
+// Writes what waits where another line's print might not fit behind it: the longest is that of a block read.
 fn make_room(desk: Desk, out: &[u8]) -> Desk {
     let n = smaller(desk.waiting, out.len());
-    if ROOM <= out.len() - n {
+    if BLOCK_ROOM <= out.len() - n {
         return desk;
     }
     flush(desk, out)

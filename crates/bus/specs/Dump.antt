@@ -6,7 +6,7 @@ use Prim.Native.Nat.{ℕ, _<_}
 use lib.Dec.{ltb}
 use lib.ListN.{length, drop, getD}
 use Rattle.laws.specs.Pick.{pick}
-use Rattle.laws.specs.Tab.{tab, tab-at}
+use Rattle.laws.specs.Tab.{tab, tab-at, tab-long}
 use Rattle.laws.specs.TabEach.{tab-same}
 use Rattle.state.specs.declared.Chip.{Chip}
 use Rattle.state.specs.Made.{ofReadings}
@@ -22,6 +22,11 @@ dumpAnswer out = pick (ltb (length out) 256) (record { refusal = 5; length = 0 }
 
 unfoldable pub dumpedInto : Chip → List ℕ → List ℕ
 dumpedInto c out = pick (ltb (length out) 256) out (shownAll c ++ drop 256 out)
+
+-- it has 256 bytes
+pub all-long : (c : Chip) → length (shownAll c) ≡ 256
+unfolding shownAll
+all-long c = tab-long (shownRegister c) 256
 
 -- the dump at k is the read at k
 pub shown-at : (c : Chip) (k : ℕ) → k < 256 → getD (shownAll c) k 0 ≡ shownRegister c k

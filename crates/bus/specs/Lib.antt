@@ -2,10 +2,16 @@ pub mod Latch
 pub mod Write
 pub mod Read
 pub mod Dump
+pub mod Block
+pub mod BlockAnswers
+pub mod BlockPart
+pub mod Blocks
 pub mod Cases
 pub mod Mirrors
 pub mod Changes
 pub mod Transactions
+pub mod Bytewise
 pub mod Locked
 pub mod Stands
+pub mod BlockCases
 pub mod DumpAt

@@ -1,5 +1,5 @@
 -- Document 01, "The register map" and "Bus answers": what byte reads show. Assumes nothing.
-use mathlib.Core.Path.{_≡_, refl}
+use mathlib.Core.Path.{_≡_, refl, sym, _∙_}
 use Prim.Native.Nat.{ℕ, _*_, _/_, _%_}
 use Rattle.laws.specs.Pick.{pick}
 use Rattle.map.specs.declared.Kind.{Kind}
@@ -86,6 +86,11 @@ module _ (c : Chip) where
   pub shown-by-parts : (a : ℕ) → shownRegister (ofReadings (c .registers) (c .zones) (c .volts) (c .fans)) a ≡ shownRegister c a
   unfolding shownRegister shownHome
   shown-by-parts a = kind-by-parts (homeOf a) (kindOf (homeOf a))
+
+-- a transaction as such changes nothing of what is shown
+pub transacted-shows : (c : Chip) (address a : ℕ) → shownRegister (transacted c address) a ≡ shownRegister c a
+unfolding transacted
+transacted-shows c address a = sym (shown-by-parts (transacted c address) a) ∙ shown-by-parts c a
 
 module _ (c : Chip) where
   -- R on the parts: the pin decides the acknowledgement, the registers and readings the byte

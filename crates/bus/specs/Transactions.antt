@@ -11,6 +11,8 @@ use Rattle.state.specs.With.{withPin}
 use Rattle.bus.specs.Latch.{latchBy, latchAfter, transactedPin, isOurs, transacted}
 use Rattle.bus.specs.Write.{wroteRegister, Written, wroteByte}
 use Rattle.bus.specs.Read.{shownRegister, Byte, NoByte, Seen, readByte}
+use Rattle.bus.specs.Block.{readBlock, wroteBlock}
+use Rattle.bus.specs.Blocks.{block-cases}
 use Rattle.bus.specs.Changes.{Kept, kept-but, kept-self, kept-on, register-keeps, register-keeps-pin}
 
 -- ---- one transaction
@@ -39,6 +41,11 @@ module _ (c : Chip) (address : ℕ) where
   -- so a read changes nothing but the latch
   pub read-keeps : (a : ℕ) → ButLatch c (readByte c address a .chip)
   read-keeps a = rw (read-chip a) transacted-keeps
+
+  -- and so does a block read
+  pub read-block-keeps : (command : ℕ) → ButLatch c (readBlock c address command .chip)
+  unfolding readBlock
+  read-block-keeps command = transacted-keeps
 
   module _ (other : isOurs (transacted c address .pin .latch) address ≡ false) (a : ℕ) where
     -- a read for another address shows nothing, and leaves the chip as any transaction does
@@ -88,15 +95,19 @@ module _ (c : Chip) (address : ℕ) where
 
 -- ---- any list of them
 
--- a byte write or a byte read
+-- a byte write, a byte read, a block write or a block read
 pub data Transaction : Type 0 where
   write : (address register byte : ℕ) → Transaction
   read : (address register : ℕ) → Transaction
+  write-block : (address command : ℕ) (bytes : List ℕ) → Transaction
+  read-block : (address command : ℕ) → Transaction
 
 -- the chip after one, and after all in order
 unfoldable pub after : Chip → Transaction → Chip
 after c (write address a byte) = wroteByte c address a byte .chip
 after c (read address a) = readByte c address a .chip
+after c (write-block address command bytes) = wroteBlock c address command bytes .chip
+after c (read-block address command) = readBlock c address command .chip
 
 unfoldable pub afterAll : Chip → List Transaction → Chip
 afterAll c [] = c
@@ -107,10 +118,12 @@ module _ (P : Chip → Type 0)
     (step : (c : Chip) (address : ℕ) → P c → P (transacted c address))
     (wrote : (c : Chip) (a byte : ℕ) → P c → P (wroteRegister c a byte)) where
   after-keeps : (c : Chip) (t : Transaction) → P c → P (after c t)
-  unfolding after
+  unfolding after readBlock
   after-keeps c (write address a byte) p =
       write-cases c address P a byte (step c address p) (wrote (transacted c address) a byte (step c address p))
   after-keeps c (read address a) p = rw (read-chip c address a) (step c address p)
+  after-keeps c (write-block address command bytes) p = block-cases c address command bytes P (step c address p) wrote
+  after-keeps c (read-block address command) p = step c address p
 
   pub all-keep : (ts : List Transaction) (c : Chip) → P c → P (afterAll c ts)
   unfolding afterAll

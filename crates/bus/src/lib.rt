@@ -1,10 +1,14 @@
-// The SMBus side of the chip: the address latch, byte writes, byte reads and the register dump (document 01, "Bus answers").
+// The SMBus side of the chip: the address latch, byte writes, byte reads and the register dump (document 01, "Bus answers"), block reads
+// and block writes (document 02, Q-1).
 ghost use mathlib.Core.Path.{_≡_};
+ghost use lib.ListN.{length};
 ghost use Rattle.state.specs.Made.{ofRegisters, ofZones, ofReadings};
 ghost use Rattle.bus.specs.Latch.{latchAfter, transactedPin, isOurs};
-ghost use Rattle.bus.specs.Write.{storedByte, clearedByte, isShut, zoneWritable, stored, cleared, changeWhole, changeHalf, changeHome, changeOf};
+ghost use Rattle.bus.specs.Write.{storedByte, clearedByte, isShut, zoneWritable, stored, cleared, changeWhole, changeHalf, changeHome, changeOf, wroteRegister};
 ghost use Rattle.bus.specs.Read.{voltByte, fanWord, halfByte, shownHome, shownRegister};
 ghost use Rattle.bus.specs.Dump.{dumpAnswer, dumpedInto};
+ghost use Rattle.bus.specs.Block.{blockPlace, blockFor, blockBytes, countedBlock, wroteFrom};
+use map::Block;
 use map::Kind;
 use map::bits;
 use map::registers;
@@ -17,6 +21,9 @@ use temperature::Reading;
 
 // The top five bits of a slave address that the chip listens for: 01011.
 const FAMILY: u8 = 0x0B;
+
+// The last register: a block that would go past it stays there.
+const LAST: u8 = 0xFF;
 
 // What a byte write changes: nothing, a register that then holds a byte, or a zone that then has a reading.
 pub enum Change {
@@ -276,4 +283,88 @@ pub fn dump(
         refusal: 0,
         length: 256,
     }
+}
+
+// ---- blocks
+
+// The register of a block's byte k.
+fn block_place(first: u8, k: usize) -> u8
+    ensures { λ r. ⌜ r ≡ blockPlace first k ⌝ }
+{
+    if k < (LAST - first) as usize {
+        return first + k as u8;
+    }
+    LAST
+}
+
+// The block that a transaction reads: none where it is not acknowledged.
+pub fn block_read(pin: Pin, address: u8, command: u8) -> Block
+    ensures { λ r. ⌜ r ≡ blockFor (pin .latch) address command ⌝ }
+{
+    if answers(pin, address) {
+        return map::block_of(command);
+    }
+    Block::Unlisted
+}
+
+// The block that a transaction with these bytes writes: none where it is not acknowledged.
+pub fn block_written(pin: Pin, address: u8, command: u8, bytes: &[u8]) -> Block
+    ensures { λ r. ⌜ r ≡ countedBlock (length (now (bytes .entry))) (blockFor (pin .latch) address command) ⌝ }
+{
+    match block_read(pin, address, command) {
+        Block::Unlisted => Block::Unlisted,
+        Block::Fixed(first, count) => {
+            if bytes.len() == count as usize {
+                Block::Fixed(first, count)
+            } else {
+                Block::Unlisted
+            }
+        }
+    }
+}
+
+// What the registers from the first on show, as many as bytes are lent.
+pub fn show_block(
+    file: &[u8; 256],
+    zones: [Zone; 6],
+    volts: [Gauge; 16],
+    fans: [Gauge; 4],
+    first: u8,
+    bytes: &mut [u8],
+)
+    ensures { λ r. ⌜ now (bytes .exit) ≡ blockBytes (ofReadings (now (file .entry)) zones volts fans) first (length (now (bytes .entry))) ⌝ }
+{
+    let mut k: usize = 0;
+    while k < bytes.len() {
+        bytes[k] = show_register(file, zones, volts, fans, block_place(first, k));
+        k += 1;
+    }
+}
+
+// Writes a byte to a register, and answers the zones as they are then.
+fn write_register(file: &mut [u8; 256], zones: [Zone; 6], register: u8, byte: u8) -> [Zone; 6]
+    ensures { λ r. ⌜ (r ≡ wroteRegister (ofZones (now (file .entry)) zones) register byte .zones) × (now (file .exit) ≡ wroteRegister (ofZones (now (file .entry)) zones) register byte .registers) ⌝ }
+{
+    match change_of(file, zones, register, byte) {
+        Change::Nothing => zones,
+        Change::Register(home, stored) => {
+            file[home as usize] = stored;
+            zones
+        }
+        Change::ZoneReading(zone, reading) => state::with_reading(zones, zone, reading),
+    }
+}
+
+// Writes the bytes to the registers from the first on, one after the other, and answers the zones as they are then.
+pub fn write_block(file: &mut [u8; 256], zones: [Zone; 6], first: u8, bytes: &[u8]) -> [Zone; 6]
+    ensures { λ r. ⌜ (r ≡ wroteFrom (ofZones (now (file .entry)) zones) first 0 (now (bytes .entry)) .zones) × (now (file .exit) ≡ wroteFrom (ofZones (now (file .entry)) zones) first 0 (now (bytes .entry)) .registers) ⌝ }
+{
+    let mut left = zones;
+    let mut k: usize = 0;
+    while k < bytes.len() {
+        let written = write_register(file, left, block_place(first, k), bytes[k]);
+        left = written;
+        k += 1;
+    }
+    left
 }

@@ -1,6 +1,7 @@
-// Prints the register map and the data sheet's tables that document 01 uses, as the libraries have them. What it must print is in the
+// Prints the register map and the data sheet's tables that documents 01 and 02 use, as the libraries have them. What it must print is in the
 // file stdout, which is worked out from the data sheet (docs/DATASHEET.md).
 use libc::STDOUT_FILENO;
+use map::Block;
 use temperature::Reading;
 
 // A tick, which is what a ramp's delay counts.
@@ -44,6 +45,30 @@ fn registers() {
     while address < 256 {
         register((address % 256) as u8);
         address += 1;
+    }
+}
+
+fn block(command: u8) {
+    match map::block_of(command) {
+        Block::Unlisted => {}
+        Block::Fixed(first, count) => {
+            hex(command);
+            text(b"\t");
+            hex(first);
+            text(b"\t");
+            io::print_decimal(STDOUT_FILENO, count as u64);
+            text(b"\n");
+        }
+    }
+}
+
+// Every command is asked for, and those that name a block are printed.
+fn fixed_blocks() {
+    text(b"fixed blocks\n");
+    let mut command: u16 = 0;
+    while command < 256 {
+        block((command % 256) as u8);
+        command += 1;
     }
 }
 
@@ -126,6 +151,7 @@ fn temperatures() {
 
 fn main() {
     registers();
+    fixed_blocks();
     slave_addresses();
     ramp_delays();
     temperatures();

@@ -12,7 +12,7 @@ use Rattle.event.specs.declared.Event.{Event}
 use Rattle.event.specs.declared.Answer.{Answer}
 use Rattle.line.specs.declared.Session.{Session}
 use Rattle.line.specs.declared.Reply.{Reply}
-use Rattle.port.specs.Port.{PowersOn, TakesEvent, TakesLine, Dumps}
+use Rattle.port.specs.Port.{PowersOn, TakesEvent, TakesLine, Dumps, ShowsBlock}
 use Rattle.map.proofs.default_of.Reads.{Learnt as default-of-promise}
 use Rattle.map.proofs.writable_of.Reads.{Learnt as writable-of-promise}
 use Rattle.map.proofs.lock_marked.Reads.{Learnt as lock-marked-promise}
@@ -20,6 +20,7 @@ use Rattle.map.proofs.home_of.Reads.{Learnt as home-of-promise}
 use Rattle.map.proofs.is_set.Reads.{Learnt as is-set-promise}
 use Rattle.map.proofs.kind_of.Reads.{Learnt as kind-of-promise}
 use Rattle.map.proofs.slave_address.Reads.{Learnt as slave-address-promise}
+use Rattle.map.proofs.block_of.Reads.{Learnt as block-of-promise}
 use Rattle.temperature.proofs.whole_byte.Reads.{Learnt as whole-byte-promise}
 use Rattle.temperature.proofs.half_set.Reads.{Learnt as half-set-promise}
 use Rattle.temperature.proofs.from_byte.Reads.{Learnt as from-byte-promise}
@@ -48,6 +49,10 @@ use Rattle.bus.proofs.answers.Reads.{Learnt as answers-promise}
 use Rattle.bus.proofs.change_of.Reads.{Learnt as change-of-promise}
 use Rattle.bus.proofs.show_register.Reads.{Learnt as show-register-promise}
 use Rattle.bus.proofs.dump.Reads.{Learnt as dump-promise}
+use Rattle.bus.proofs.block_read.Reads.{Learnt as block-read-promise}
+use Rattle.bus.proofs.block_written.Reads.{Learnt as block-written-promise}
+use Rattle.bus.proofs.show_block.Reads.{Learnt as show-block-promise}
+use Rattle.bus.proofs.write_block.Reads.{Learnt as write-block-promise}
 use Rattle.drive.proofs.followed_zone.Reads.{Learnt as followed-zone-promise}
 use Rattle.drive.proofs.table_of.Reads.{Learnt as table-of-promise}
 use Rattle.drive.proofs.new_step.Reads.{Learnt as new-step-promise}
@@ -62,20 +67,25 @@ use Rattle.drive.proofs.tick.Reads.{Learnt as tick-promise}
 use Rattle.event.proofs.refusal_of.Reads.{Learnt as refusal-of-promise}
 use Rattle.event.proofs.step.Reads.{Learnt as step-promise}
 use Rattle.event.proofs.dump.Reads.{Learnt as event-dump-promise}
+use Rattle.event.proofs.show_block.Reads.{Learnt as event-show-block-promise}
 use Rattle.text.proofs.width.Reads.{Learnt as width-promise}
 use Rattle.text.proofs.line_width.Reads.{Learnt as line-width-promise}
 use Rattle.text.proofs.count_fields.Reads.{Learnt as count-fields-promise}
 use Rattle.text.proofs.field.Reads.{Learnt as field-promise}
+use Rattle.text.proofs.next_field.Reads.{Learnt as next-field-promise}
 use Rattle.text.proofs.decimal.Reads.{Learnt as decimal-promise}
 use Rattle.text.proofs.is_spelt.Reads.{Learnt as is-spelt-promise}
 use Rattle.text.proofs.hex_byte.Reads.{Learnt as hex-byte-promise}
+use Rattle.text.proofs.hex_fields.Reads.{Learnt as hex-fields-promise}
 use Rattle.text.proofs.write_ack.Reads.{Learnt as write-ack-promise}
 use Rattle.text.proofs.write_shown.Reads.{Learnt as write-shown-promise}
 use Rattle.text.proofs.write_not_shown.Reads.{Learnt as write-not-shown-promise}
+use Rattle.text.proofs.write_block_shown.Reads.{Learnt as write-block-shown-promise}
 use Rattle.text.proofs.write_tick.Reads.{Learnt as write-tick-promise}
 use Rattle.text.proofs.write_refusal.Reads.{Learnt as write-refusal-promise}
 use Rattle.parse.proofs.letter_of.Reads.{Learnt as letter-of-promise}
 use Rattle.parse.proofs.event_of.Reads.{Learnt as event-of-promise}
+use Rattle.parse.proofs.data_of.Reads.{Learnt as data-of-promise}
 use Rattle.settings.proofs.settings_of.Reads.{Learnt as settings-of-promise}
 use Rattle.line.proofs.start.Reads.{Learnt as start-promise}
 use Rattle.line.proofs.take_line.Reads.{Learnt as take-line-promise}
@@ -83,6 +93,7 @@ use Rattle.lent.proofs.power_again.Reads.{Learnt as lent-power-again-promise}
 use Rattle.lent.proofs.take_event.Reads.{Learnt as lent-take-event-promise}
 use Rattle.lent.proofs.take_line.Reads.{Learnt as lent-take-line-promise}
 use Rattle.lent.proofs.dump.Reads.{Learnt as lent-dump-promise}
+use Rattle.lent.proofs.show_block.Reads.{Learnt as lent-show-block-promise}
 
 -- a promise speaks of the lifetimes κs, the parameters a, the result r, and e, the parameters as the call leaves them. It determines what
 -- is seen of r and e: any two that keep it show the same
@@ -99,7 +110,7 @@ module _ {K : Type 0} {A R E : K → Type 0} (promise : (κs : K) → A κs → 
   abbrev pub ResultAnd : {B : Type 0} → ((κs : K) → E κs → B) → Type 0
   ResultAnd {B} left = Determines {S = λ κs. R κs × B} promise (λ κs r e. (r, left κs e))
 
-  -- what is left in a register file that was lent to be written, of a function that answers nothing
+  -- what is left in a register file or a buffer that was lent to be written, of a function that answers nothing
   abbrev pub Left : {B : Type 0} → ((κs : K) → E κs → B) → Type 0
   Left {B} left = Determines {S = λ κs. B} promise (λ κs r e. left κs e)
 
@@ -134,6 +145,9 @@ kind-of = determined (λ κs a r e p. p)
 
 pub slave-address : Result slave-address-promise
 slave-address = determined (λ κs a r e p. p)
+
+pub block-of : Result block-of-promise
+block-of = determined (λ κs a r e p. p)
 
 -- ---- temperature: temperatures
 
@@ -210,7 +224,7 @@ feeds-four = determined (λ κs a r e p. p)
 pub take-reset : Left take-reset-promise (λ κs e. now (e .0))
 take-reset = determined (λ κs a r e p. p)
 
--- ---- bus: bus answers, and the register dump
+-- ---- bus: bus answers, the register dump, and blocks
 
 pub transact : Result transact-promise
 transact = determined (λ κs a r e p. p)
@@ -226,6 +240,18 @@ show-register = determined (λ κs a r e p. p)
 
 pub dump : ResultAnd dump-promise (λ κs e. now (e .1 .1 .1 .1 .0))
 dump = determined (λ κs a r e p. both p)
+
+pub block-read : Result block-read-promise
+block-read = determined (λ κs a r e p. p)
+
+pub block-written : Result block-written-promise
+block-written = determined (λ κs a r e p. p)
+
+pub show-block : Left show-block-promise (λ κs e. now (e .1 .1 .1 .1 .1 .0))
+show-block = determined (λ κs a r e p. p)
+
+pub write-block : ResultAnd write-block-promise (λ κs e. now (e .0))
+write-block = determined (λ κs a r e p. both p)
 
 -- ---- drive: fan duties
 
@@ -274,6 +300,10 @@ step = determined (λ κs a r e p. p)
 pub event-dump : ResultAnd event-dump-promise (λ κs e. now (e .1 .0))
 event-dump = determined (λ κs a r e p. both p)
 
+-- and `show_block`
+pub event-show-block : Left event-show-block-promise (λ κs e. now (e .1 .1 .0))
+event-show-block = determined (λ κs a r e p. p)
+
 -- ---- text: fields, decimals, bus fields, and answers written into a lent buffer
 
 -- its promise has two parts, and the second is the equation
@@ -291,6 +321,10 @@ count-fields = determined (λ κs a r e p. p)
 pub field : Determines field-promise (λ κs r e. now r)
 field = determined (λ κs a r e p. p)
 
+-- as that of `width`
+pub next-field : Result next-field-promise
+next-field = determined (λ κs a r e p. p .1)
+
 pub decimal : Result decimal-promise
 decimal = determined (λ κs a r e p. p)
 
@@ -300,6 +334,9 @@ is-spelt = determined (λ κs a r e p. p)
 pub hex-byte : Result hex-byte-promise
 hex-byte = determined (λ κs a r e p. p)
 
+pub hex-fields : ResultAnd hex-fields-promise (λ κs e. now (e .1 .1 .0))
+hex-fields = determined (λ κs a r e p. both p)
+
 pub write-ack : ResultAnd write-ack-promise (λ κs e. now (e .0))
 write-ack = determined (λ κs a r e p. both p)
 
@@ -308,6 +345,10 @@ write-shown = determined (λ κs a r e p. both p)
 
 pub write-not-shown : ResultAnd write-not-shown-promise (λ κs e. now (e .0))
 write-not-shown = determined (λ κs a r e p. both p)
+
+-- of the text of a block
+pub write-block-shown : ResultAnd write-block-shown-promise (λ κs e. now (e .0))
+write-block-shown = determined (λ κs a r e p. both p)
 
 pub write-tick : ResultAnd write-tick-promise (λ κs e. now (e .0))
 write-tick = determined (λ κs a r e p. both p)
@@ -322,6 +363,9 @@ letter-of = determined (λ κs a r e p. p)
 
 pub event-of : Result event-of-promise
 event-of = determined (λ κs a r e p. p)
+
+pub data-of : ResultAnd data-of-promise (λ κs e. now (e .1 .0))
+data-of = determined (λ κs a r e p. both p)
 
 -- ---- settings: the setup as a line
 
@@ -344,7 +388,7 @@ take-line = determined (λ κs a r e p. both p)
 pub port-power-on : ResultAnd {K = Unit {0}} {A = λ _. Chip × Setup} {R = λ _. ℕ} {E = λ _. Chip} (λ _ a r e. PowersOn (a .0) (a .1) r e) (λ _ e. e)
 port-power-on = determined (λ κs a r e p. both p)
 
-pub port-take-event : ResultAnd {K = Unit {0}} {A = λ _. Chip × Event} {R = λ _. Answer} {E = λ _. Chip} (λ _ a r e. TakesEvent (a .0) (a .1) r e) (λ _ e. e)
+pub port-take-event : ResultAnd {K = Unit {0}} {A = λ _. Chip × (Event × List ℕ)} {R = λ _. Answer} {E = λ _. Chip} (λ _ a r e. TakesEvent (a .0) (a .1 .0) (a .1 .1) r e) (λ _ e. e)
 port-take-event = determined (λ κs a r e p. both p)
 
 pub port-take-line : ResultAnd {K = Unit {0}} {A = λ _. Session × (List ℕ × List ℕ)} {R = λ _. Reply} {E = λ _. Session × List ℕ} (λ _ a r e. TakesLine (a .0) (a .1 .0) (a .1 .1) r (e .0) (e .1)) (λ _ e. e)
@@ -352,6 +396,9 @@ port-take-line = determined (λ κs a r e p. both (p .0, both (p .1, p .2)))
 
 pub port-dump : ResultAnd {K = Unit {0}} {A = λ _. Chip × List ℕ} {R = λ _. Dumped} {E = λ _. List ℕ} (λ _ a r e. Dumps (a .0) (a .1) r e) (λ _ e. e)
 port-dump = determined (λ κs a r e p. both p)
+
+pub port-show-block : Left {K = Unit {0}} {A = λ _. Chip × (ℕ × List ℕ)} {R = λ _. Unit {0}} {E = λ _. List ℕ} (λ _ a r e. ShowsBlock (a .0) (a .1 .0) (a .1 .1) e) (λ _ e. e)
+port-show-block = determined (λ κs a r e p. p)
 
 -- ---- lent: a chip by value, lent to port
 
@@ -366,3 +413,6 @@ lent-take-line = determined (λ κs a r e p. both p)
 
 pub lent-dump : ResultAnd lent-dump-promise (λ κs e. now (e .1 .0))
 lent-dump = determined (λ κs a r e p. both p)
+
+pub lent-show-block : Left lent-show-block-promise (λ κs e. now (e .1 .1 .0))
+lent-show-block = determined (λ κs a r e p. p)

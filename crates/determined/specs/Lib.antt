@@ -1,4 +1,5 @@
 pub mod Determined
 pub mod Said
 pub mod Printed
+pub mod PrintedBlocks
 pub mod ProvedCases

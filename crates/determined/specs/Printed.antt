@@ -3,15 +3,16 @@
 use mathlib.Core.Path.{_≡_, refl, ap, _∙_}
 use mathlib.Core.List.{List, [], _∷_}
 use Prim.Native.Nat.{ℕ}
+use Rattle.state.specs.Made.{fresh}
 use Rattle.event.specs.Session.{session, answers, session-answers}
 use Rattle.text.specs.Fields.{firstField, otherFields, fieldsOf, fieldAt}
 use Rattle.text.specs.Number.{isDigit, allDigits, valueOf, runOf, plusOf, minusOf, decimalOf, isSpelt}
 use Rattle.text.specs.Hex.{nibbleOf, hexByteOf}
 use Rattle.text.specs.Answers.{digitsText, columnText, hexDigit, hexText, digitOf, ackText, byteText, noByteText, tickText, refusalText}
-use Rattle.parse.specs.Parse.{letterOf, numberAt, indexOf, spelledReading, countOf, pairOf, temperatureLine, hotLine, aloneLine, writeBy, writeLine, readBy, readLine, eventBy}
+use Rattle.parse.specs.Parse.{letterOf, numberAt, indexOf, spelledReading, countOf, pairOf, temperatureLine, hotLine, aloneLine, twoBy, twoOf, threeBy, threeOf, writeBy, writeLine, readBy, readLine, eventBy, dataOf}
 use Rattle.line.specs.Line.{startSession, answerText}
 use Rattle.line.specs.Session.{printedFrom}
-use Rattle.determined.specs.Said.{says, AllSay, none, more, textAt, textFrom, said-prints}
+use Rattle.determined.specs.Said.{says, AllSay, none, more, textAt, said-prints, AllPlain, plainFrom, plain-prints}
 
 -- K, T 1 70, T 5 66, K, W 2C BF 01, H 1 1, K, W 2C B5 80, K, R 2C 52, R 2D 52, T 6 10; tabs are 9
 unfoldable pub input : List (List ℕ)
@@ -46,27 +47,46 @@ output =
 
 -- each line says its event
 said : AllSay input session
-unfolding input session letterOf eventBy aloneLine temperatureLine hotLine writeLine writeBy readLine readBy pairOf numberAt indexOf spelledReading countOf firstField otherFields fieldsOf fieldAt isDigit allDigits valueOf runOf plusOf minusOf decimalOf isSpelt nibbleOf hexByteOf
+unfolding input session letterOf eventBy aloneLine temperatureLine hotLine writeLine writeBy readLine readBy threeOf threeBy twoOf twoBy dataOf pairOf numberAt indexOf spelledReading countOf firstField otherFields fieldsOf fieldAt isDigit allDigits valueOf runOf plusOf minusOf decimalOf isSpelt nibbleOf hexByteOf
 said =
-    more (says refl refl)
-    (more (says refl refl)
-    (more (says refl refl)
-    (more (says refl refl)
-    (more (says refl refl)
-    (more (says refl refl)
-    (more (says refl refl)
-    (more (says refl refl)
-    (more (says refl refl)
-    (more (says refl refl)
-    (more (says refl refl)
-    (more (says refl refl)
+    more (says refl refl refl)
+    (more (says refl refl refl)
+    (more (says refl refl refl)
+    (more (says refl refl refl)
+    (more (says refl refl refl)
+    (more (says refl refl refl)
+    (more (says refl refl refl)
+    (more (says refl refl refl)
+    (more (says refl refl refl)
+    (more (says refl refl refl)
+    (more (says refl refl refl)
+    (more (says refl refl refl)
+    none)))))))))))
+
+-- no answer is a block
+plain : AllPlain answers
+unfolding answers textAt answerText
+plain =
+    more (λ n c d. refl)
+    (more (λ n c d. refl)
+    (more (λ n c d. refl)
+    (more (λ n c d. refl)
+    (more (λ n c d. refl)
+    (more (λ n c d. refl)
+    (more (λ n c d. refl)
+    (more (λ n c d. refl)
+    (more (λ n c d. refl)
+    (more (λ n c d. refl)
+    (more (λ n c d. refl)
+    (more (λ n c d. refl)
     none)))))))))))
 
 -- the answers print as the output
-shown : textFrom 1 answers ≡ output
-unfolding answers output textFrom textAt answerText digitsText columnText hexDigit hexText digitOf ackText byteText noByteText tickText refusalText
+shown : plainFrom 1 fresh answers ≡ output
+unfolding answers output plainFrom textAt answerText digitsText columnText hexDigit hexText digitOf ackText byteText noByteText tickText refusalText
 shown = refl
 
 pub printed : printedFrom startSession 1 input ≡ output
 unfolding startSession
-printed = said-prints startSession 1 said ∙ ap (textFrom 1) session-answers ∙ shown
+printed =
+    said-prints startSession 1 said ∙ plain-prints 1 fresh fresh session (rw session-answers plain) ∙ ap (plainFrom 1 fresh) session-answers ∙ shown

@@ -1,9 +1,11 @@
--- Document 01's cases, in one list under one statement, in 01's order and each under 01's words, over the definitions that the code is
--- proved to meet. negsuc n is -(n + 1). Zones, channels and fans count from 0. Assumes nothing.
+-- Document 01's cases, in one list under one statement, in 01's order and each under 01's words, with those of document 02 behind them, over
+-- the definitions that the code is proved to meet. negsuc n is -(n + 1). Zones, channels and fans count from 0. Assumes nothing.
 use mathlib.Core.Path.{_≡_, refl}
 use mathlib.Core.Bool.{true}
+use mathlib.Core.List.{[], _∷_}
 use Prim.Native.Nat.{ℕ}
 use lib.IntN.{pos, negsuc}
+use lib.ListN.{replicate}
 use Rattle.map.specs.Tables.{defaults}
 use Rattle.temperature.specs.declared.Reading.the-variants as reading
 use Rattle.temperature.specs.Temperature.{wholeByte, halfSet, readingOf, hotterOf}
@@ -24,11 +26,14 @@ use Rattle.bus.specs.Read.{Byte, readByte}
 use Rattle.bus.specs.Cases as bus
 use Rattle.drive.specs.Tables.{tableOf, newStep}
 use Rattle.drive.specs.Cases as drive
+use Rattle.event.specs.declared.Event.the-variants.{WriteBlock}
+use Rattle.event.specs.Event.{refusalOf}
 use Rattle.event.specs.Run.{answersTo}
 use Rattle.event.specs.Session.{session, answers, session-answers}
 use Rattle.line.specs.Line.{startSession}
 use Rattle.line.specs.Session.{printedFrom}
 use Rattle.determined.specs.Printed.{input, output, printed}
+use Rattle.determined.specs.PrintedBlocks.{blockInput, blockOutput, blocks-printed, RepliesIn, rooms, too-many}
 
 -- the chip at power-on without a setup, with a byte stored at an address
 abbrev pub freshWith : ℕ → ℕ → Chip
@@ -80,6 +85,13 @@ pub record Cases : Type 0 where
   pub limit-kept : registerAt (tookReset (freshWith 0x9C 80)) 0x9C ≡ 80
   -- "after R 2F 00 and A 1, R 2C 00 is still acknowledged"
   pub latched : readByte (tookPin (readByte fresh 0x2F 0x00 .chip) 1) 0x2C 0x00 .shown ≡ Byte 0x00
+  -- ---- document 02, Q-1, "Whole blocks over the bus"
+  -- G and P lines from power-on, taken and refused: their bytes, and those that they print
+  pub blocks : printedFrom startSession 1 blockInput ≡ blockOutput
+  -- "for a line that begins with G, an output under 128 bytes is 5, in its old place": GG, G 2C F6, and P 2C F2 00
+  pub block-rooms : RepliesIn 127 (71 ∷ 71 ∷ []) 5 0 × RepliesIn 128 (71 ∷ 71 ∷ []) 4 0 × RepliesIn 127 (71 ∷ 9 ∷ 50 ∷ 67 ∷ 9 ∷ 70 ∷ 54 ∷ []) 5 0 × RepliesIn 128 (71 ∷ 9 ∷ 50 ∷ 67 ∷ 9 ∷ 70 ∷ 54 ∷ []) 0 19 × RepliesIn 64 (80 ∷ 9 ∷ 50 ∷ 67 ∷ 9 ∷ 70 ∷ 50 ∷ 9 ∷ 48 ∷ 48 ∷ []) 0 4
+  -- "more than 32 data bytes .. is 4", beside an event too, and before 2
+  pub block-too-many : (refusalOf (WriteBlock 0x80 0xF2) (replicate 33 0) ≡ 4) × (refusalOf (WriteBlock 0x80 0xF2) (replicate 32 0) ≡ 2)
 
 -- two facts that stand in no other crate
 fan-limit : fanLimitAt (fresh .registers) 0 ≡ 0x3FFF
@@ -110,4 +122,7 @@ all = record {
   reset-keeps = sense.missing-fan .6;
   limit-kept = limit;
   latched = bus.latch .0;
+  blocks = blocks-printed;
+  block-rooms = rooms;
+  block-too-many = too-many;
 }

@@ -1,16 +1,18 @@
--- What a test of an event's ranges tells. Assumes nothing.
-use mathlib.Core.Path.{_≡_, sym, ap, _∙_}
+-- What the test of an event tells. Assumes nothing.
+use mathlib.Core.Path.{_≡_, sym, _∙_}
 use mathlib.Core.Bool.{Bool, true}
+use mathlib.Core.List.{List}
 use Prim.Native.Nat.{ℕ, _-_, _≤_, _<_}
 use native.Mathlib.Omega.{arith}
-use lib.Dec.{leb}
-use borrow.Author.Tests.{leb-true}
+use lib.Dec.{eqb, leb}
+use borrow.Author.Tests.{eqb-true, leb-true}
 use Rattle.laws.specs.Pick.{both}
 use Rattle.laws.specs.Both.{both-left, both-right}
 use Rattle.state.specs.declared.Chip.{Chip}
 use Rattle.event.specs.declared.Event.{Event}
 use Rattle.event.specs.declared.Stepped.{Stepped}
-use Rattle.event.specs.Event.{indexIn, eventIn, takenStep, steppedChip}
+use Rattle.event.specs.Event.{indexIn, eventIn, refusalOf, takenStep, steppedChip}
+use Rattle.event.specs.Refusal.{taken-in, step-taken}
 
 -- a number that counts from 1 to most has a place from 0 on
 pub record Place (most n : ℕ) : Type 0 where
@@ -25,15 +27,17 @@ place most n b e =
     let high = leb-true n most (both-right (leb 1 n) (leb n most) i) in
     record { from-one = low; below = omega arith }
 
--- an event that was tested and found in range: what it is, f
-pub record Passed (e f : Event) : Type 0 where
+-- an event that was tested with its bytes and is not refused: what it is, f, and that its numbers are in range
+pub record Passed (e f : Event) (bytes : List ℕ) : Type 0 where
   pub is : e ≡ f
+  pub none : refusalOf f bytes ≡ 0
   pub inside : eventIn f ≡ true
 
-pub passed : {t : Bool} {e f : Event} → t ≡ eventIn e → t ≡ true → e ≡ f → Passed e f
-passed test holds is = record { is = is; inside = ap eventIn (sym is) ∙ sym test ∙ holds }
+pub passed : {t : Bool} {e f : Event} {bytes : List ℕ} → t ≡ eqb (refusalOf e bytes) 0 → t ≡ true → e ≡ f → Passed e f bytes
+passed {f = f} {bytes = bytes} test holds is =
+    let n : refusalOf f bytes ≡ 0 = rw (← is) (eqb-true _ 0 (sym test ∙ holds)) in
+    record { is = is; none = n; inside = taken-in f bytes n }
 
 -- it is taken
-pub taken-step : {e f : Event} → Passed e f → (c : Chip) {s : Stepped} → s ≡ takenStep c f → s ≡ steppedChip c e
-unfolding steppedChip
-taken-step p c q = rw (p .is, p .inside) q
+pub taken-step : {e f : Event} {bytes : List ℕ} → Passed e f bytes → (c : Chip) {s : Stepped} → s ≡ takenStep c f bytes → s ≡ steppedChip c e bytes
+taken-step {e} {f} {bytes} p c q = rw (p .is) (q ∙ sym (step-taken c f bytes (p .none)))

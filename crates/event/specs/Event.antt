@@ -1,11 +1,16 @@
--- Document 01, "Events", with the refusal of "Lines and refusals" for numbers out of range: one event, by cases. Assumes nothing.
+-- Document 01, "Events", with the refusal of "Lines and refusals" for numbers out of range, and document 02, Q-1, which adds block reads and
+-- block writes: one event, by cases. The bytes of a block write stand beside the event; no other event looks at any,
+-- but more than 32 are refused beside any event. Assumes nothing.
 use mathlib.Core.Bool.{Bool, true, false}
+use mathlib.Core.List.{List}
 use Prim.Native.Nat.{ℕ, _-_, _%_}
 use lib.Dec.{eqb, leb}
 use lib.IntN.{pos, negsuc}
-use lib.ListN.{getD}
+use lib.ListN.{length, getD}
 use lib.Signed.{leZ}
 use Rattle.laws.specs.Pick.{pick, both}
+use Rattle.map.specs.declared.Block.{Block}
+use Rattle.map.specs.declared.Block.the-variants.{Unlisted, Fixed}
 use Rattle.temperature.specs.declared.Reading.{Reading}
 use Rattle.temperature.specs.declared.Reading.the-variants as reading
 use Rattle.state.specs.declared.Chip.{Chip}
@@ -16,11 +21,12 @@ use Rattle.sense.specs.Standing.{errorsStanding, alertActive}
 use Rattle.sense.specs.Events.{tookTemperature, tookVoltage, tookFan, tookHot, tookPin, tookReset}
 use Rattle.bus.specs.Write.{Written, wroteByte}
 use Rattle.bus.specs.Read.{Shown, NoByte as NoneShown, Byte as ByteShown, Seen, readByte}
+use Rattle.bus.specs.Block.{SeenBlock, readBlock, wroteBlock}
 use Rattle.drive.specs.Tick.{Ticked, tickedChip}
 use Rattle.event.specs.declared.Event.{Event}
-use Rattle.event.specs.declared.Event.the-variants.{Temperature, Voltage, Fan, Hot, Pin, Tick, Reset, Write, Read}
+use Rattle.event.specs.declared.Event.the-variants.{Temperature, Voltage, Fan, Hot, Pin, Tick, Reset, Write, Read, ReadBlock, WriteBlock}
 use Rattle.event.specs.declared.Answer.{Answer}
-use Rattle.event.specs.declared.Answer.the-variants.{Nothing, Refused, Acknowledged, Byte, NoByte, Ticked as TickedBy}
+use Rattle.event.specs.declared.Answer.the-variants.{Nothing, Refused, Acknowledged, Byte, NoByte, Ticked as TickedBy, Block as BlockShown, NoBlock, BlockWritten}
 use Rattle.event.specs.declared.Stepped.{Stepped}
 
 -- ---- ranges
@@ -76,10 +82,13 @@ eventIn Tick = true
 eventIn Reset = true
 eventIn (Write address a byte) = addressIn address
 eventIn (Read address a) = addressIn address
+eventIn (ReadBlock address command) = addressIn address
+eventIn (WriteBlock address command) = addressIn address
 
--- 0, or refusal 2: "an event number out of range, "-" in H or A, address above 7Fh"
-unfoldable pub refusalOf : Event → ℕ
-refusalOf e = pick (eventIn e) 0 2
+-- 0; refusal 4, 02: "more than 32 data bytes .. is 4"; or refusal 2: "an event number out of range, "-" in H or A, address above 7Fh". "The
+-- first that applies, in this order."
+unfoldable pub refusalOf : Event → List ℕ → ℕ
+refusalOf e bytes = pick (leb (length bytes) 32) (pick (eventIn e) 0 2) 4
 
 -- ---- what an event leaves and answers
 
@@ -87,9 +96,9 @@ refusalOf e = pick (eventIn e) 0 2
 unfoldable pub quietStep : Chip → Stepped
 quietStep c = record { chip = c; answer = Nothing }
 
--- refusal 2: "an event number out of range, "-" in H or A, address above 7Fh"; "chip and buffers stay"
-unfoldable pub refusedStep : Chip → Stepped
-refusedStep c = record { chip = c; answer = Refused 2 }
+-- "It returns its number and length 0; chip and buffers stay."
+unfoldable pub refusedStep : Chip → ℕ → Stepped
+refusedStep c refusal = record { chip = c; answer = Refused refusal }
 
 -- "K prints alert, duty 1, duty 2, output 1, output 2, errors"
 unfoldable pub tickAnswer : Ticked → Stepped
@@ -117,20 +126,34 @@ seenAnswer (ByteShown b) = Byte b
 unfoldable pub readAnswer : Seen → Stepped
 readAnswer s = record { chip = s .chip; answer = seenAnswer (s .shown) }
 
+-- 02, Q-1: "G prints ack, count and bytes as hex fields, or 0 and `--`": the bytes are those of the chip that it leaves
+unfoldable pub blockAnswer : Block → Answer
+blockAnswer Unlisted = NoBlock
+blockAnswer (Fixed first count) = BlockShown first count
+
+unfoldable pub seenBlockAnswer : SeenBlock → Stepped
+seenBlockAnswer s = record { chip = s .chip; answer = blockAnswer (s .block) }
+
+-- "P prints ack"
+unfoldable pub writtenBlockAnswer : Written → Stepped
+writtenBlockAnswer w = record { chip = w .chip; answer = BlockWritten (w .ack) }
+
 -- ---- one event
 
--- with its numbers in range; of K the missing marks come first, then the fans
-unfoldable pub takenStep : Chip → Event → Stepped
-takenStep c (Temperature zone r) = quietStep (tookTemperature c (zone - 1) r)
-takenStep c (Voltage channel n) = quietStep (tookVoltage c (channel - 1) n)
-takenStep c (Fan fan n) = quietStep (tookFan c (fan - 1) n)
-takenStep c (Hot input level) = quietStep (tookHot c (input - 1) (eqb (levelOf level) 1))
-takenStep c (Pin level) = quietStep (tookPin c (levelOf level))
-takenStep c Tick = tickAnswer (tickedChip (missed c))
-takenStep c Reset = quietStep (tookReset c)
-takenStep c (Write address a byte) = writtenAnswer (wroteByte c address a byte)
-takenStep c (Read address a) = readAnswer (readByte c address a)
+-- that is not refused; of K the missing marks come first, then the fans
+unfoldable pub takenStep : Chip → Event → List ℕ → Stepped
+takenStep c (Temperature zone r) bytes = quietStep (tookTemperature c (zone - 1) r)
+takenStep c (Voltage channel n) bytes = quietStep (tookVoltage c (channel - 1) n)
+takenStep c (Fan fan n) bytes = quietStep (tookFan c (fan - 1) n)
+takenStep c (Hot input level) bytes = quietStep (tookHot c (input - 1) (eqb (levelOf level) 1))
+takenStep c (Pin level) bytes = quietStep (tookPin c (levelOf level))
+takenStep c Tick bytes = tickAnswer (tickedChip (missed c))
+takenStep c Reset bytes = quietStep (tookReset c)
+takenStep c (Write address a byte) bytes = writtenAnswer (wroteByte c address a byte)
+takenStep c (Read address a) bytes = readAnswer (readByte c address a)
+takenStep c (ReadBlock address command) bytes = seenBlockAnswer (readBlock c address command)
+takenStep c (WriteBlock address command) bytes = writtenBlockAnswer (wroteBlock c address command bytes)
 
 -- taken, or refused by number
-unfoldable pub steppedChip : Chip → Event → Stepped
-steppedChip c e = pick (eventIn e) (takenStep c e) (refusedStep c)
+unfoldable pub steppedChip : Chip → Event → List ℕ → Stepped
+steppedChip c e bytes = pick (eqb (refusalOf e bytes) 0) (takenStep c e bytes) (refusedStep c (refusalOf e bytes))

@@ -1,6 +1,8 @@
 -- What lasts through any event: the setup, how long the lists are, and the ranges of steps, levels and duties. Only a tick changes the
 -- drive. Assumes nothing.
 use mathlib.Core.Path.{_≡_, refl, ap, _∙_}
+use mathlib.Core.List.{List}
+use Prim.Native.Nat.{ℕ}
 use lib.ListN.{length}
 use Rattle.laws.specs.Tab.{tab-long}
 use Rattle.map.specs.Map.{defaultOf}
@@ -13,36 +15,41 @@ use Rattle.sense.specs.Missing.{missed}
 use Rattle.laws.specs.Never.{never}
 use Rattle.drive.specs.Tick.{stepsAfter, boostsAfter, rampsAfter, driveAfter, tickedChip}
 use Rattle.drive.specs.Range.{InRange, tick-in-range}
+use Rattle.drive.specs.TickOrder.{tick-keeps}
 use Rattle.event.specs.declared.Event.{Event}
-use Rattle.event.specs.declared.Event.the-variants.{Temperature, Voltage, Fan, Hot, Pin, Tick, Reset, Write, Read}
-use Rattle.event.specs.Event.{steppedChip}
-use Rattle.event.specs.SameShape.{SameShape, missed-shape, event-shape}
-use Rattle.event.specs.Ticking.{tick-chip, tick-leaves}
+use Rattle.event.specs.declared.Event.the-variants.{Temperature, Voltage, Fan, Hot, Pin, Tick, Reset, Write, Read, ReadBlock, WriteBlock}
+use Rattle.event.specs.Event.{tickAnswer, takenStep, steppedChip}
+use Rattle.event.specs.Refusal.{step-cases}
+use Rattle.event.specs.SameShape.{SameShape, shape-self, missed-shape, event-shape}
 
 -- ---- a tick, or another event
 
--- what holds of a tick and of all that is no tick holds of every event
-by-tick : (P : Event → Type 0) → P Tick → ((e : Event) → (e ≡ Tick → ⊥) → P e) → (e : Event) → P e
-by-tick P t f (Temperature zone r) = f _ (λ q. never (cc))
-by-tick P t f (Voltage channel n) = f _ (λ q. never (cc))
-by-tick P t f (Fan fan n) = f _ (λ q. never (cc))
-by-tick P t f (Hot input level) = f _ (λ q. never (cc))
-by-tick P t f (Pin level) = f _ (λ q. never (cc))
-by-tick P t f Tick = t
-by-tick P t f Reset = f _ (λ q. never (cc))
-by-tick P t f (Write address a byte) = f _ (λ q. never (cc))
-by-tick P t f (Read address a) = f _ (λ q. never (cc))
+-- what a chip of the same shape has, and what a tick leaves, any event leaves: a refused one too
+by-tick : (c : Chip) (P : Chip → Type 0) → ((d : Chip) → SameShape c d → P d) → P (tickedChip (missed c) .chip) → (e : Event) (bytes : List ℕ) → P (steppedChip c e bytes .chip)
+unfolding takenStep tickAnswer
+by-tick c P f t (Temperature zone r) bytes = f _ (event-shape c _ bytes (λ q. never (cc)))
+by-tick c P f t (Voltage channel n) bytes = f _ (event-shape c _ bytes (λ q. never (cc)))
+by-tick c P f t (Fan fan n) bytes = f _ (event-shape c _ bytes (λ q. never (cc)))
+by-tick c P f t (Hot input level) bytes = f _ (event-shape c _ bytes (λ q. never (cc)))
+by-tick c P f t (Pin level) bytes = f _ (event-shape c _ bytes (λ q. never (cc)))
+by-tick c P f t Tick bytes = step-cases c Tick bytes P (f c (shape-self c)) (λ z. t)
+by-tick c P f t Reset bytes = f _ (event-shape c _ bytes (λ q. never (cc)))
+by-tick c P f t (Write address a byte) bytes = f _ (event-shape c _ bytes (λ q. never (cc)))
+by-tick c P f t (Read address a) bytes = f _ (event-shape c _ bytes (λ q. never (cc)))
+by-tick c P f t (ReadBlock address command) bytes = f _ (event-shape c _ bytes (λ q. never (cc)))
+by-tick c P f t (WriteBlock address command) bytes = f _ (event-shape c _ bytes (λ q. never (cc)))
 
 -- ---- the setup and the drive
 
 module _ (c : Chip) where
   -- only a tick changes the drive
-  pub drive-kept : (e : Event) → (e ≡ Tick → ⊥) → steppedChip c e .chip .drive ≡ c .drive
-  drive-kept e h = event-shape c e h .drive
+  pub drive-kept : (e : Event) (bytes : List ℕ) → (e ≡ Tick → ⊥) → steppedChip c e bytes .chip .drive ≡ c .drive
+  drive-kept e bytes h = event-shape c e bytes h .drive
 
   -- no event changes the setup
-  pub setup-kept : (e : Event) → steppedChip c e .chip .setup ≡ c .setup
-  setup-kept = by-tick _ (tick-leaves c .setup ∙ missed-shape c .setup) (λ e h. event-shape c e h .setup)
+  pub setup-kept : (e : Event) (bytes : List ℕ) → steppedChip c e bytes .chip .setup ≡ c .setup
+  setup-kept =
+      by-tick c (λ (d : Chip). d .setup ≡ c .setup) (λ d s. s .setup) (tick-keeps (missed c) .setup ∙ missed-shape c .setup)
 
 -- ---- lengths
 
@@ -106,15 +113,12 @@ module _ {c : Chip} (s : Sized c) where
   }
 
 -- every event keeps the lists' lengths
-pub step-sized : {c : Chip} → Sized c → (e : Event) → Sized (steppedChip c e .chip)
-step-sized {c} s =
-    by-tick (λ e. Sized (steppedChip c e .chip)) (rw (tick-chip c) (ticked-sized (shape-sized s (missed-shape c)))) (λ e h. shape-sized s (event-shape c e h))
+pub step-sized : {c : Chip} → Sized c → (e : Event) (bytes : List ℕ) → Sized (steppedChip c e bytes .chip)
+step-sized {c} s = by-tick c Sized (λ d p. shape-sized s p) (ticked-sized (shape-sized s (missed-shape c)))
 
 -- ---- ranges
 
 -- every event keeps steps at 0 to 12, and ramp levels and duties at 0 to 256
-pub step-in-range : (c : Chip) (e : Event) → Valid (c .setup) → InRange (c .drive) → InRange (steppedChip c e .chip .drive)
-step-in-range c e v r = by-tick (λ e. InRange (steppedChip c e .chip .drive)) ticked (λ e h. rw (drive-kept c e h) r) e
-  where
-    ticked : InRange (steppedChip c Tick .chip .drive)
-    ticked = rw (tick-chip c) (tick-in-range (missed c) (rw (missed-shape c .setup) v) (rw (missed-shape c .drive) r))
+pub step-in-range : (c : Chip) (e : Event) (bytes : List ℕ) → Valid (c .setup) → InRange (c .drive) → InRange (steppedChip c e bytes .chip .drive)
+step-in-range c e bytes v r =
+    by-tick c (λ (d : Chip). InRange (d .drive)) (λ d s. rw (s .drive) r) (tick-in-range (missed c) (rw (missed-shape c .setup) v) (rw (missed-shape c .drive) r)) e bytes

@@ -6,3 +6,5 @@ pub mod SameShape
 pub mod Ticking
 pub mod Lasting
 pub mod Reached
+pub mod Blocks
+pub mod Bytewise

@@ -25,11 +25,13 @@ use Rattle.bus.specs.declared.Change.{Change}
 use Rattle.bus.specs.declared.Change.the-variants.{Nothing, Register, ZoneReading}
 use Rattle.bus.specs.Write.{changeOf, changed, wroteRegister, wroteByte}
 use Rattle.bus.specs.Read.{readByte}
+use Rattle.bus.specs.Block.{readBlock, wroteBlock}
+use Rattle.bus.specs.Blocks.{block-cases}
 use Rattle.bus.specs.Transactions.{read-chip, write-cases}
 use Rattle.event.specs.declared.Event.{Event}
-use Rattle.event.specs.declared.Event.the-variants.{Temperature, Voltage, Fan, Hot, Pin as PinEvent, Tick, Reset, Write, Read}
-use Rattle.event.specs.declared.Stepped.{Stepped}
-use Rattle.event.specs.Event.{eventIn, quietStep, refusedStep, writtenAnswer, readAnswer, takenStep, steppedChip}
+use Rattle.event.specs.declared.Event.the-variants.{Temperature, Voltage, Fan, Hot, Pin as PinEvent, Tick, Reset, Write, Read, ReadBlock, WriteBlock}
+use Rattle.event.specs.Event.{quietStep, writtenAnswer, readAnswer, seenBlockAnswer, writtenBlockAnswer, takenStep, steppedChip}
+use Rattle.event.specs.Refusal.{step-cases}
 
 -- d has the setup and the drive of c, and lists as long
 pub record SameShape (c d : Chip) : Type 0 where
@@ -45,7 +47,7 @@ pub record SameShape (c d : Chip) : Type 0 where
 shape-but : (c : Chip) {r : List ℕ} {z : List Zone} {v f : List Gauge} {h : List Bool} {p : Pin} → length r ≡ length (c .registers) → length z ≡ length (c .zones) → length v ≡ length (c .volts) → length f ≡ length (c .fans) → length h ≡ length (c .hot) → SameShape c (record { setup = c .setup; registers = r; zones = z; volts = v; fans = f; hot = h; pin = p; drive = c .drive })
 shape-but c a b d e g = record { setup = refl; registers = a; zones = b; volts = d; fans = e; hot = g; drive = refl }
 
-shape-self : (c : Chip) → SameShape c c
+pub shape-self : (c : Chip) → SameShape c c
 shape-self c = shape-but c refl refl refl refl refl
 
 shape-on : {c d e : Chip} → SameShape c d → SameShape d e → SameShape c e
@@ -202,19 +204,28 @@ module _ (c : Chip) where
   read-shape : (address a : ℕ) → SameShape c (readByte c address a .chip)
   read-shape address a = rw (read-chip c address a) (transacted-shape c address)
 
-  taken-shape : (e : Event) → (e ≡ Tick → ⊥) → SameShape c (takenStep c e .chip)
-  unfolding takenStep quietStep writtenAnswer readAnswer
-  taken-shape (Temperature zone r) h = temperature-shape (zone - 1) r
-  taken-shape (Voltage channel n) h = voltage-shape (channel - 1) n
-  taken-shape (Fan fan n) h = fan-shape (fan - 1) n
-  taken-shape (Hot input level) h = hot-shape (input - 1) _
-  taken-shape (PinEvent level) h = pin-shape _
-  taken-shape Tick h = absurd (h refl)
-  taken-shape Reset h = reset-shape
-  taken-shape (Write address a byte) h = write-shape address a byte
-  taken-shape (Read address a) h = read-shape address a
+  read-block-shape : (address command : ℕ) → SameShape c (readBlock c address command .chip)
+  unfolding readBlock
+  read-block-shape address command = transacted-shape c address
+
+  write-block-shape : (address command : ℕ) (bytes : List ℕ) → SameShape c (wroteBlock c address command bytes .chip)
+  write-block-shape address command bytes =
+      block-cases c address command bytes (SameShape c) (transacted-shape c address) (λ d a byte s. shape-on s (register-shape d a byte))
+
+  taken-shape : (e : Event) (bytes : List ℕ) → (e ≡ Tick → ⊥) → SameShape c (takenStep c e bytes .chip)
+  unfolding takenStep quietStep writtenAnswer readAnswer seenBlockAnswer writtenBlockAnswer
+  taken-shape (Temperature zone r) bytes h = temperature-shape (zone - 1) r
+  taken-shape (Voltage channel n) bytes h = voltage-shape (channel - 1) n
+  taken-shape (Fan fan n) bytes h = fan-shape (fan - 1) n
+  taken-shape (Hot input level) bytes h = hot-shape (input - 1) _
+  taken-shape (PinEvent level) bytes h = pin-shape _
+  taken-shape Tick bytes h = absurd (h refl)
+  taken-shape Reset bytes h = reset-shape
+  taken-shape (Write address a byte) bytes h = write-shape address a byte
+  taken-shape (Read address a) bytes h = read-shape address a
+  taken-shape (ReadBlock address command) bytes h = read-block-shape address command
+  taken-shape (WriteBlock address command) bytes h = write-block-shape address command bytes
 
   -- an event other than a tick keeps the setup, the drive and how long the lists are
-  pub event-shape : (e : Event) → (e ≡ Tick → ⊥) → SameShape c (steppedChip c e .chip)
-  unfolding steppedChip refusedStep
-  event-shape e h = pick-each (λ (s : Stepped). SameShape c (s .chip)) (eventIn e) (taken-shape e h) (shape-self c)
+  pub event-shape : (e : Event) (bytes : List ℕ) → (e ≡ Tick → ⊥) → SameShape c (steppedChip c e bytes .chip)
+  event-shape e bytes h = step-cases c e bytes (SameShape c) (shape-self c) (λ z. taken-shape e bytes h)

@@ -2,7 +2,7 @@
 -- answer. Assumes nothing.
 use mathlib.Core.Path.{_≡_, refl, sym, ap, _∙_}
 use mathlib.Core.Bool.{true, false}
-use mathlib.Core.List.{List, [], _∷_}
+use mathlib.Core.List.{List, [], _∷_, map}
 use Prim.Native.Nat.{ℕ}
 use lib.IntN.{pos}
 use lib.ListN.{replicate}
@@ -39,14 +39,15 @@ use Rattle.event.specs.declared.Event.{Event}
 use Rattle.event.specs.declared.Event.the-variants.{Temperature, Hot, Tick, Write, Read}
 use Rattle.event.specs.declared.Answer.{Answer}
 use Rattle.event.specs.declared.Answer.the-variants.{Nothing, Refused, Acknowledged, Byte, NoByte, Ticked}
-use Rattle.event.specs.Event.{indexIn, readingIn, levelIn, levelOf, quietStep, refusedStep, eventIn, tickAnswer, writtenAnswer, seenAnswer, readAnswer, takenStep, steppedChip}
-use Rattle.event.specs.Run.{answersTo}
+use Rattle.event.specs.Event.{indexIn, readingIn, levelIn, levelOf, quietStep, refusedStep, eventIn, refusalOf, tickAnswer, writtenAnswer, seenAnswer, readAnswer, takenStep, steppedChip}
+use Rattle.event.specs.Run.{Given, alone, answersTo}
 use Rattle.event.specs.Ticking.{tickFrom, tick-by-parts}
 
 -- K, T 1 70, T 5 66, K, W 2C BF 01, H 1 1, K, W 2C B5 80, K, R 2C 52, R 2D 52, T 6 10
-unfoldable pub session : List Event
+unfoldable pub session : List Given
 session =
-    Tick ∷ Temperature 1 (reading.Taken (pos 70)) ∷ Temperature 5 (reading.Taken (pos 66)) ∷ Tick ∷ Write 0x2C 0xBF 0x01 ∷ Hot 1 (Taken 1) ∷ Tick ∷ Write 0x2C 0xB5 0x80 ∷ Tick ∷ Read 0x2C 0x52 ∷ Read 0x2D 0x52 ∷ Temperature 6 (reading.Taken (pos 10)) ∷ []
+    map alone
+    (Tick ∷ Temperature 1 (reading.Taken (pos 70)) ∷ Temperature 5 (reading.Taken (pos 66)) ∷ Tick ∷ Write 0x2C 0xBF 0x01 ∷ Hot 1 (Taken 1) ∷ Tick ∷ Write 0x2C 0xB5 0x80 ∷ Tick ∷ Read 0x2C 0x52 ∷ Read 0x2D 0x52 ∷ Temperature 6 (reading.Taken (pos 10)) ∷ [])
 
 unfoldable pub answers : List Answer
 answers =
@@ -141,45 +142,45 @@ chip10 = withDrive chip9 (driven4 .drive)
 
 -- the chip c answers a to the event e, and is d then
 record Answered (c : Chip) (e : Event) (a : Answer) (d : Chip) : Type 0 where
-  step : steppedChip c e ≡ record { chip = d; answer = a }
+  step : steppedChip c e [] ≡ record { chip = d; answer = a }
 
--- the chip c answers xs to the events es, one after the other
-data AllAnswered : Chip → List Event → List Answer → Type 0 where
+-- the chip c answers xs to the events gs, one after the other
+data AllAnswered : Chip → List Given → List Answer → Type 0 where
   done : {c : Chip} → AllAnswered c [] []
-  next : {c d : Chip} {e : Event} {a : Answer} {es : List Event} {xs : List Answer} → Answered c e a d → AllAnswered d es xs → AllAnswered c (e ∷ es) (a ∷ xs)
+  next : {c d : Chip} {e : Event} {a : Answer} {gs : List Given} {xs : List Answer} → Answered c e a d → AllAnswered d gs xs → AllAnswered c (alone e ∷ gs) (a ∷ xs)
 
-all-answered : {c : Chip} {es : List Event} {xs : List Answer} → AllAnswered c es xs → answersTo c es ≡ xs
+all-answered : {c : Chip} {gs : List Given} {xs : List Answer} → AllAnswered c gs xs → answersTo c gs ≡ xs
 unfolding answersTo
 all-answered done = refl
 all-answered (next {a = a} g h) = rw (g .step) (ap (λ (xs : List Answer). a ∷ xs) (all-answered h))
 
 -- T 1 70, T 5 66, and T 6 10, which is refused
 temperatures : Answered chip1 (Temperature 1 (reading.Taken (pos 70))) Nothing chip2 × Answered chip2 (Temperature 5 (reading.Taken (pos 66))) Nothing chip3 × Answered chip10 (Temperature 6 (reading.Taken (pos 10))) (Refused 2) chip10
-unfolding steppedChip eventIn indexIn readingIn takenStep quietStep refusedStep tookTemperature zoneHeard zoneThreeFed isSet registerAt withZone powerOn defaults
+unfolding steppedChip refusalOf eventIn indexIn readingIn takenStep quietStep refusedStep tookTemperature zoneHeard zoneThreeFed isSet registerAt withZone powerOn defaults
 temperatures = (record { step = refl }, record { step = refl }, record { step = refl })
 
 -- W 2C BF 01, W 2C B5 80
 writes : Answered chip4 (Write 0x2C 0xBF 0x01) (Acknowledged true) chip5 × Answered chip7 (Write 0x2C 0xB5 0x80) (Acknowledged true) chip8
-unfolding steppedChip eventIn takenStep writtenAnswer wroteByte transacted transactedPin latchAfter latchBy isOurs slaveAddress wroteRegister changed changeOf changeHome changeKind isShut stored storedByte registerAt withRegister withZone withHotInput homeOf homes kindOf writableOf writables lockMarked lockMarks isSet powerOn defaultSetup defaults
+unfolding steppedChip refusalOf eventIn takenStep writtenAnswer wroteByte transacted transactedPin latchAfter latchBy isOurs slaveAddress wroteRegister changed changeOf changeHome changeKind isShut stored storedByte registerAt withRegister withZone withHotInput homeOf homes kindOf writableOf writables lockMarked lockMarks isSet powerOn defaultSetup defaults
 writes = (record { step = refl }, record { step = refl })
 
 -- H 1 1
 hot : Answered chip5 (Hot 1 (Taken 1)) Nothing chip6
-unfolding steppedChip eventIn indexIn levelIn levelOf takenStep quietStep tookHot
+unfolding steppedChip refusalOf eventIn indexIn levelIn levelOf takenStep quietStep tookHot
 hot = record { step = refl }
 
 -- R 2C 52, R 2D 52
 reads : Answered chip10 (Read 0x2C 0x52) (Byte 0x21) chip10 × Answered chip10 (Read 0x2D 0x52) NoByte chip10
-unfolding steppedChip eventIn takenStep readAnswer seenAnswer readByte transacted transactedPin latchAfter latchBy isOurs shownRegister shownHome shownKind wholeByte wholeOf byteOf zoneAt withRegister withZone withHotInput homeOf homes kindOf powerOn
+unfolding steppedChip refusalOf eventIn takenStep readAnswer seenAnswer readByte transacted transactedPin latchAfter latchBy isOurs shownRegister shownHome shownKind wholeByte wholeOf byteOf zoneAt withRegister withZone withHotInput homeOf homes kindOf powerOn
 reads = (record { step = refl }, record { step = refl })
 
 -- ---- K
 
 -- a tick by its two parts, the missing marks and the fans, and what it then shows
 tick : (c : Chip) {file : List ℕ} {d : Driven} {a : Answer} → file ≡ missedFile (c .registers) (c .volts) (c .fans) → d ≡ driven (withRegisters c file) → tickFrom c file d .answer ≡ a → Answered c Tick a (withDrive (withRegisters c file) (d .drive))
-unfolding steppedChip eventIn tickAnswer
+unfolding steppedChip refusalOf eventIn tickAnswer
 tick c {file} {d} marked turned shown = record {
-  step = sym (tick-by-parts c marked (turned ∙ sym (driven-by-parts (withRegisters c file))))
+  step = sym (tick-by-parts c [] marked (turned ∙ sym (driven-by-parts (withRegisters c file))))
       ∙ ap (λ (a : Answer). record { chip = withDrive (withRegisters c file) (d .drive); answer = a }) shown;
 }
 

@@ -1,9 +1,13 @@
-// The events of the chip: each is taken, or refused by its number (document 01, "Events" and "Lines and refusals").
+// The events of the chip: each is taken, or refused by its number (document 01, "Events" and "Lines and refusals"; document 02, Q-1).
 ghost use mathlib.Core.Path.{_≡_};
+ghost use lib.Dec.{eqb};
+ghost use lib.ListN.{length};
 ghost use Rattle.event.specs.Event.{indexIn, readingIn, countIn, levelIn, levelOf, temperatureIn, voltageIn, fanIn, hotIn, addressIn, eventIn, refusalOf, steppedChip};
 ghost use Rattle.bus.specs.Dump.{dumpAnswer, dumpedInto};
+ghost use Rattle.bus.specs.Block.{blockBytes};
 use bus::Change;
 use bus::Dumped;
+use map::Block;
 use map::registers;
 use state::Chip;
 use state::Count;
@@ -11,7 +15,7 @@ use state::Gauge;
 use state::Zone;
 use temperature::Reading;
 
-// An event, with the numbers as they came in.
+// An event, with the numbers as they came in. The bytes of a block write are lent beside it, and their count is how many are lent.
 pub enum Event {
     // T: zone 1 to 5, and its reading.
     Temperature { zone: u8, reading: Reading },
@@ -30,6 +34,9 @@ pub enum Event {
     // W and R: bus transactions.
     Write { address: u8, register: u8, byte: u8 },
     Read { address: u8, register: u8 },
+    // G and P: block reads and block writes.
+    ReadBlock { address: u8, command: u8 },
+    WriteBlock { address: u8, command: u8 },
 }
 
 // What a tick shows.
@@ -54,6 +61,11 @@ pub enum Answer {
     NoByte,
     // Of K.
     Ticked(Tick),
+    // Of G: the first register and the count of what the chip shows, or none where it was not acknowledged.
+    Block(u8, u8),
+    NoBlock,
+    // Of P: whether it was acknowledged.
+    BlockWritten(bool),
 }
 
 // The chip after an event, and the event's answer.
@@ -62,8 +74,13 @@ pub struct Stepped {
     pub answer: Answer,
 }
 
-// The refusal of an event number out of range.
+// The refusals of an event number out of range, and of too many bytes beside it.
 const EVENT_OUT_OF_RANGE: u8 = 2;
+
+const BYTES_TOO_MANY: u8 = 4;
+
+// The longest block.
+pub const BLOCK_MOST: usize = 32;
 
 // The largest slave address, of seven bits.
 const ADDRESS_TOP: u8 = 0x7F;
@@ -174,18 +191,38 @@ fn event_in(event: Event) -> bool
             address,
             register: _,
         } => address_in(address),
+        Event::ReadBlock {
+            address,
+            command: _,
+        } => address_in(address),
+        Event::WriteBlock {
+            address,
+            command: _,
+        } => address_in(address),
     }
 }
 
-// 0, or the refusal of an event that has a number out of range: of any chip, since no range asks for one.
-pub fn refusal_of(event: Event) -> u8
-    ensures { λ r. ⌜ r ≡ refusalOf event ⌝ }
+// 0, or the refusal of an event that has too many bytes beside it or a number out of range: of any chip, since no range asks for one.
+pub fn refusal_of(event: Event, bytes: &[u8]) -> u8
+    ensures { λ r. ⌜ r ≡ refusalOf event (now (bytes .entry)) ⌝ }
 {
-    if event_in(event) {
-        0
-    } else {
-        EVENT_OUT_OF_RANGE
+    if bytes.len() <= BLOCK_MOST {
+        if event_in(event) {
+            return 0;
+        }
+        return EVENT_OUT_OF_RANGE;
     }
+    BYTES_TOO_MANY
+}
+
+// Whether that is 0. It is asked of every event, and the compiler puts this test, but not the number, into `step`.
+fn is_taken(event: Event, bytes: &[u8]) -> bool
+    ensures { λ r. ⌜ r ≡ eqb (refusalOf event (now (bytes .entry))) 0 ⌝ }
+{
+    if bytes.len() <= BLOCK_MOST {
+        return event_in(event);
+    }
+    false
 }
 
 // ---- the events
@@ -202,12 +239,12 @@ fn level_of(level: Count) -> u8
 
 // One event: the chip after it and its answer. A refused event leaves the chip as it was. The chip is large to hand on, so it is held here
 // alone: the functions of `sense`, `bus` and `drive` are given the parts that they look at, and what they answer is stored in its place.
-pub fn step(chip: Chip, event: Event) -> Stepped
-    ensures { λ r. ⌜ r ≡ steppedChip chip event ⌝ }
+pub fn step(chip: Chip, event: Event, bytes: &[u8]) -> Stepped
+    ensures { λ r. ⌜ r ≡ steppedChip chip event (now (bytes .entry)) ⌝ }
 {
     let mut next = chip;
     let mut answer = Answer::Nothing;
-    if event_in(event) {
+    if is_taken(event, bytes) {
         match event {
             Event::Temperature { zone, reading } => {
                 let at = zone - 1;
@@ -315,9 +352,37 @@ pub fn step(chip: Chip, event: Event) -> Stepped
                     ));
                 }
             }
+            Event::ReadBlock { address, command } => {
+                let old = next.pin;
+                let pin = bus::transact(old, address);
+                next.pin = pin;
+                answer = Answer::NoBlock;
+                match bus::block_read(pin, address, command) {
+                    Block::Unlisted => {}
+                    Block::Fixed(first, count) => {
+                        answer = Answer::Block(first, count);
+                    }
+                }
+            }
+            Event::WriteBlock { address, command } => {
+                let old = next.pin;
+                let pin = bus::transact(old, address);
+                next.pin = pin;
+                answer = Answer::BlockWritten(false);
+                match bus::block_written(pin, address, command, bytes) {
+                    Block::Unlisted => {}
+                    Block::Fixed(first, _) => {
+                        let zones = next.zones;
+                        let left = bus::write_block(&mut next.registers, zones, first, bytes);
+                        next.zones = left;
+                        answer = Answer::BlockWritten(true);
+                    }
+                }
+            }
         }
     } else {
-        answer = Answer::Refused(EVENT_OUT_OF_RANGE);
+        let refusal = refusal_of(event, bytes);
+        answer = Answer::Refused(refusal);
     }
     Stepped {
         chip: next,
@@ -325,7 +390,7 @@ pub fn step(chip: Chip, event: Event) -> Stepped
     }
 }
 
-// ---- dump
+// ---- what a chip shows
 
 // The register dump of a chip, into a lent buffer.
 pub fn dump(chip: Chip, out: &mut [u8]) -> Dumped
@@ -335,4 +400,14 @@ pub fn dump(chip: Chip, out: &mut [u8]) -> Dumped
     let volts = chip.volts;
     let fans = chip.fans;
     bus::dump(&chip.registers, zones, volts, fans, out)
+}
+
+// What the registers of a chip from the first on show, as many as bytes are lent: of a block read that was acknowledged, its bytes.
+pub fn show_block(chip: Chip, first: u8, bytes: &mut [u8])
+    ensures { λ r. ⌜ now (bytes .exit) ≡ blockBytes chip first (length (now (bytes .entry))) ⌝ }
+{
+    let zones = chip.zones;
+    let volts = chip.volts;
+    let fans = chip.fans;
+    bus::show_block(&chip.registers, zones, volts, fans, first, bytes);
 }

@@ -1,6 +1,7 @@
 // Gives each line to a session that is lent to the port and to one that goes by value, and what the line says to a chip that is lent to the
 // port. Prints what the line prints, `differs` where the three do not agree, and at the end the register dump of the lent session.
 use event::Answer;
+use event::BLOCK_MOST;
 use event::Tick;
 use libc::STDIN_FILENO;
 use libc::STDOUT_FILENO;
@@ -8,10 +9,10 @@ use line::Reply;
 use line::Session;
 use parse::Parsed;
 use state::Chip;
+use text::BLOCK_ROOM;
+use text::ROOM;
 
 const INPUT: usize = 4096;
-
-const ROOM: usize = 64;
 
 const REGISTERS: usize = 256;
 
@@ -99,7 +100,37 @@ fn same_answer(a: Answer, b: Answer) -> bool {
             };
             same_tick(n, m)
         }
+        Answer::Block(first, n) => {
+            let Answer::Block(begins, m) = b else {
+                return false;
+            };
+            first == begins && n == m
+        }
+        Answer::NoBlock => {
+            let Answer::NoBlock = b else {
+                return false;
+            };
+            true
+        }
+        Answer::BlockWritten(n) => {
+            let Answer::BlockWritten(m) = b else {
+                return false;
+            };
+            n == m
+        }
     }
+}
+
+// Of an answer to a block read the bytes, of the one chip the port's, of the other those by value.
+fn same_block(answer: Answer, held: Chip, moved: Chip) -> bool {
+    let Answer::Block(first, _) = answer else {
+        return true;
+    };
+    let mut a = [0u8; BLOCK_MOST];
+    let mut b = [0u8; BLOCK_MOST];
+    lent::show_block(held, first, &mut a);
+    event::show_block(moved, first, &mut b);
+    check::same(&a, &b)
 }
 
 fn complain(alike: bool) {
@@ -132,12 +163,17 @@ fn step(chip: Chip, refusal: u8, line: &[u8]) -> Chip {
     let Parsed::Fine(event) = parsed else {
         return chip;
     };
-    let stepped = lent::take_event(chip, event);
-    let moved = event::step(chip, event);
+    let mut carried = [0u8; BLOCK_MOST];
+    let count = parse::data_of(line, &mut carried);
+    let stepped = lent::take_event(chip, event, &carried[..count]);
+    let moved = event::step(chip, event, &carried[..count]);
     let answer = stepped.answer;
     let moved_answer = moved.answer;
+    let after = stepped.chip;
+    let moved_after = moved.chip;
     complain(same_answer(answer, moved_answer));
-    stepped.chip
+    complain(same_block(answer, after, moved_after));
+    after
 }
 
 // A setup whose duties fall is refused by 1, and the chip stays.
@@ -156,7 +192,7 @@ fn write_first(out: &[u8], n: usize) {
     }
 }
 
-fn write_reply(number: u64, reply: Reply, out: &[u8; ROOM]) {
+fn write_reply(number: u64, reply: Reply, out: &[u8; BLOCK_ROOM]) {
     write_first(out, reply.length);
     let refusal = reply.refusal;
     if refusal != 0 {
@@ -171,8 +207,8 @@ fn next_number(n: u64) -> u64 {
 }
 
 fn give(run: Run, line: &[u8]) -> Run {
-    let mut out = [0u8; ROOM];
-    let mut moved_out = [0u8; ROOM];
+    let mut out = [0u8; BLOCK_ROOM];
+    let mut moved_out = [0u8; BLOCK_ROOM];
     let held = run.held;
     let moved = run.moved;
     let chip = run.chip;

@@ -1,15 +1,21 @@
 -- What comes of a line, by what it asks for. Assumes nothing.
 use mathlib.Core.Path.{_≡_}
+use mathlib.Core.Bool.{Bool}
 use mathlib.Core.List.{List}
-use Prim.Native.Nat.{ℕ, _≤_}
-use lib.ListN.{length}
-use borrow.Author.Tests.{le-ltb}
+use Prim.Native.Nat.{ℕ, _≤_, _<_}
+use native.Mathlib.Omega.{arith}
+use lib.Dec.{eqb}
+use lib.ListN.{length, getD}
+use borrow.Author.Tests.{eq-eqb, ne-eqb, lt-ltb, le-ltb}
+use Rattle.laws.specs.Pointwise.{pick-each}
 use Rattle.event.specs.declared.Event.{Event}
+use Rattle.parse.specs.Parse.{dataOf}
+use Rattle.text.specs.Answers.{ROOM, BLOCK-ROOM}
 use Rattle.text.specs.Written.{wrote-none, wrote-zero}
 use Rattle.line.specs.declared.Session.{Session}
 use Rattle.line.specs.declared.Taken.{Taken}
 use Rattle.line.specs.declared.Asked.the-variants as asked
-use Rattle.line.specs.Line.{askedLine, refusedLine, begunLine, setupLine, eventLine, judgedBy, answerText, takenBy, bufferBy, silentLine, judgedLine, judgedIn, takenLine, bufferAfter}
+use Rattle.line.specs.Line.{roomFor, askedLine, refusedLine, begunLine, setupLine, eventLine, judgedBy, answerText, answerRoom, takenBy, bufferBy, silentLine, judgedLine, judgedIn, takenLine, bufferAfter}
 
 -- a line's reply and what it leaves in the lent output
 pub record Comes (s : Session) (line out : List ℕ) (t : Taken) (left : List ℕ) : Type 0 where
@@ -17,19 +23,39 @@ pub record Comes (s : Session) (line out : List ℕ) (t : Taken) (left : List �
   pub buffer : bufferAfter s line out ≡ left
 
 -- with room for its answer a line is judged as the laws of lines have it
-pub judged-with-room : (s : Session) (line : List ℕ) (room : ℕ) → 64 ≤ room → judgedIn s line room ≡ judgedLine s line
+pub judged-with-room : (s : Session) (line : List ℕ) (room : ℕ) → roomFor line ≤ room → judgedIn s line room ≡ judgedLine s line
 unfolding judgedIn judgedLine askedLine
-judged-with-room s line room h = rw (le-ltb room 64 h)
+judged-with-room s line room h = rw (le-ltb room (roomFor line) h)
+
+-- 128 bytes are room for any line's
+pub room-for-most : (line : List ℕ) → roomFor line ≤ BLOCK-ROOM
+unfolding roomFor
+room-for-most line = pick-each (λ (n : ℕ). n ≤ BLOCK-ROOM) (eqb (getD line 0 0) 71) (omega arith) (omega arith)
+
+-- and 64 for one that does not begin with G
+pub room-for-other : (line : List ℕ) → (getD line 0 0 ≡ 71 → ⊥) → roomFor line ≡ ROOM
+unfolding roomFor
+room-for-other line n = rw (ne-eqb (getD line 0 0) 71 n)
+
+-- and 128 for one that does
+pub room-for-block : (line : List ℕ) → getD line 0 0 ≡ 71 → roomFor line ≡ BLOCK-ROOM
+unfolding roomFor
+room-for-block line g = rw (eq-eqb (getD line 0 0) 71 g)
+
+-- 02: "for a line that begins with G, an output under 128 bytes is 5", whatever else is in the line
+pub no-room-for-block : (begun : Bool) (room : ℕ) (line : List ℕ) → getD line 0 0 ≡ 71 → room < BLOCK-ROOM → askedLine begun room line ≡ asked.Refused 5
+unfolding askedLine
+no-room-for-block begun room line g h = rw (room-for-block line g, lt-ltb room BLOCK-ROOM h)
 
 module _ (s : Session) (line out : List ℕ) where
   pub setup-comes : askedLine (s .begun) (length out) line ≡ asked.Setup → Comes s line out (silentLine (setupLine line)) out
-  unfolding takenLine bufferAfter judgedIn judgedBy takenBy bufferBy silentLine setupLine begunLine answerText
-  setup-comes e = record { taken = rw (e, wrote-zero out); buffer = rw e (wrote-none out) }
+  unfolding takenLine bufferAfter judgedIn judgedBy takenBy bufferBy silentLine setupLine begunLine answerText answerRoom
+  setup-comes e = record { taken = rw (e, wrote-zero); buffer = rw e (wrote-none _ out) }
 
   pub refused-comes : (n : ℕ) → askedLine (s .begun) (length out) line ≡ asked.Refused n → Comes s line out (silentLine (refusedLine s n)) out
-  unfolding takenLine bufferAfter judgedIn judgedBy takenBy bufferBy silentLine refusedLine answerText
-  refused-comes n e = record { taken = rw (e, wrote-zero out); buffer = rw e (wrote-none out) }
+  unfolding takenLine bufferAfter judgedIn judgedBy takenBy bufferBy silentLine refusedLine answerText answerRoom
+  refused-comes n e = record { taken = rw (e, wrote-zero); buffer = rw e (wrote-none _ out) }
 
-  pub event-comes : (e : Event) → askedLine (s .begun) (length out) line ≡ asked.Event e → Comes s line out (takenBy (eventLine (s .chip) e) out) (bufferBy (eventLine (s .chip) e) out)
+  pub event-comes : (e : Event) → askedLine (s .begun) (length out) line ≡ asked.Event e → Comes s line out (takenBy (eventLine (s .chip) e (dataOf line)) out) (bufferBy (eventLine (s .chip) e (dataOf line)) out)
   unfolding takenLine bufferAfter judgedIn judgedBy
   event-comes e a = record { taken = rw a; buffer = rw a }

@@ -3,3 +3,4 @@ pub mod Session
 pub mod Clamped
 pub mod Comes
 pub mod Kept
+pub mod Room

@@ -14,7 +14,7 @@ sessionAfter s (l ∷ ls) = sessionAfter (judgedLine s l .session) ls
 
 -- what line n prints: its answer, or "E, its line number from 1, the refusal"
 unfoldable pub printedBy : Judged → ℕ → List ℕ
-printedBy j n = pick (eqb (j .refusal) 0) (answerText (j .answer)) (refusalText n (j .refusal))
+printedBy j n = pick (eqb (j .refusal) 0) (answerText (j .session .chip) (j .answer)) (refusalText n (j .refusal))
 
 unfoldable pub printedFrom : Session → ℕ → List (List ℕ) → List ℕ
 printedFrom s n [] = []

@@ -6,3 +6,4 @@ pub mod Kind
 pub mod Slave
 pub mod Laws
 pub mod Facts
+pub mod Blocks

@@ -1,4 +1,4 @@
--- The registers and bits that definitions speak of, by their names in source document 000 (crates/map/src has them all).
+-- The registers, block commands and bits that definitions speak of, by their names in source document 000 (crates/map/src has them all).
 -- Assumes nothing.
 use Prim.Native.Nat.{ℕ}
 
@@ -42,6 +42,17 @@ CONFIGURATION = 0xE3
 
 abbrev pub SLEEP-STATE-CONTROL : ℕ
 SLEEP-STATE-CONTROL = 0xE4
+
+-- ---- block commands: the first, the second and the last of the twelve fixed blocks
+
+abbrev pub FIXED-BLOCK-0 : ℕ
+FIXED-BLOCK-0 = 0xF2
+
+abbrev pub FIXED-BLOCK-1 : ℕ
+FIXED-BLOCK-1 = 0xF3
+
+abbrev pub FIXED-BLOCK-11 : ℕ
+FIXED-BLOCK-11 = 0xFD
 
 -- ---- bits
 

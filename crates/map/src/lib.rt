@@ -1,11 +1,13 @@
-// The register map of the LM94: what stands at each of its 256 addresses.
+// The register map of the LM94: what stands at each of its 256 addresses, and the fixed blocks.
 ghost use mathlib.Core.Path.{_≡_};
 ghost use Rattle.map.specs.Map.{defaultOf, writableOf, lockMarked, homeOf};
 ghost use Rattle.map.specs.Bits.{isSet};
 ghost use Rattle.map.specs.Kind.{kindOf};
 ghost use Rattle.map.specs.Slave.{slaveAddress};
+ghost use Rattle.map.specs.Blocks.{blockOf};
 
 pub mod bits;
+pub mod commands;
 pub mod registers;
 mod tables;
 
@@ -29,6 +31,12 @@ pub enum Kind {
     // A fan limit's low six bits, and its high eight.
     FanLimitLow(u8),
     FanLimitHigh(u8),
+}
+
+// What a block command names: no block, or a fixed one by its first register and its count.
+pub enum Block {
+    Unlisted,
+    Fixed(u8, u8),
 }
 
 // What a register holds at power-on.
@@ -131,5 +139,18 @@ pub fn slave_address(level: u8) -> u8
         0 => 0x2C,
         1 => 0x2E,
         _ => 0x2D,
+    }
+}
+
+// The block that a command names.
+pub fn block_of(command: u8) -> Block
+    ensures { λ r. ⌜ r ≡ blockOf command ⌝ }
+{
+    match command {
+        commands::FIXED_BLOCK_0..=commands::FIXED_BLOCK_11 => {
+            let k = (command - commands::FIXED_BLOCK_0) as usize;
+            Block::Fixed(tables::BLOCK_FIRSTS[k], tables::BLOCK_COUNTS[k])
+        }
+        _ => Block::Unlisted,
     }
 }

@@ -1,17 +1,19 @@
--- Worked lines of document 01. Assumes nothing.
+-- Worked lines of document 01, and block reads and writes. Assumes nothing.
 use mathlib.Core.Path.{_≡_, refl}
 use mathlib.Core.List.{List, [], _∷_}
 use Prim.Native.Nat.{ℕ}
 use lib.IntN.{pos, negsuc}
+use Rattle.laws.specs.Every.{every}
+use Rattle.laws.specs.Tab.{tab}
 use Rattle.temperature.specs.declared.Reading.the-variants as reading
 use Rattle.state.specs.declared.Count.the-variants as count
-use Rattle.event.specs.declared.Event.the-variants.{Temperature, Voltage, Pin, Tick, Write, Read}
+use Rattle.event.specs.declared.Event.the-variants.{Temperature, Voltage, Pin, Tick, Write, Read, ReadBlock, WriteBlock}
 use Rattle.text.specs.Fields.{firstField, otherFields, fieldsOf, fieldAt}
 use Rattle.text.specs.Number.{isDigit, allDigits, valueOf, runOf, plusOf, minusOf, decimalOf, isSpelt}
-use Rattle.text.specs.Hex.{nibbleOf, hexByteOf}
+use Rattle.text.specs.Hex.{nibbleOf, hexByteOf, isHex, hexValue, hexesSpelt, hexesOf}
 use Rattle.parse.specs.declared.Parsed.{Parsed}
 use Rattle.parse.specs.declared.Parsed.the-variants.{Wrong, Fine}
-use Rattle.parse.specs.Parse.{letterOf, numberAt, indexOf, spelledReading, countOf, pairOf, temperatureLine, voltageLine, pinLine, aloneLine, writeBy, writeLine, readBy, readLine, eventBy, eventOf}
+use Rattle.parse.specs.Parse.{letterOf, numberAt, indexOf, spelledReading, countOf, pairOf, temperatureLine, voltageLine, pinLine, aloneLine, twoBy, twoOf, threeBy, threeOf, writeBy, writeLine, readBy, readLine, readBlockBy, readBlockLine, isData, writeBlockBy, writeBlockLine, eventBy, eventOf, dataBy, dataOf}
 
 -- what a line says, by its own letter
 abbrev pub said : List ℕ → Parsed
@@ -34,8 +36,18 @@ pins = (refl, refl)
 
 -- "W\t2C\tBF\t01" and "R\t2C\t52"; "R\t2C\t-" is wrong spelling
 pub transactions : (said (87 ∷ 9 ∷ 50 ∷ 67 ∷ 9 ∷ 66 ∷ 70 ∷ 9 ∷ 48 ∷ 49 ∷ []) ≡ Fine (Write 0x2C 0xBF 0x01)) × (said (82 ∷ 9 ∷ 50 ∷ 67 ∷ 9 ∷ 53 ∷ 50 ∷ []) ≡ Fine (Read 0x2C 0x52)) × (said (82 ∷ 9 ∷ 50 ∷ 67 ∷ 9 ∷ 45 ∷ []) ≡ Wrong)
-unfolding eventBy letterOf fieldsOf firstField otherFields fieldAt writeLine writeBy readLine readBy hexByteOf nibbleOf
+unfolding eventBy letterOf fieldsOf firstField otherFields fieldAt writeLine writeBy readLine readBy threeOf threeBy twoOf twoBy hexByteOf nibbleOf
 transactions = (refl, refl, refl)
+
+-- "G\t2C\tF2"; "P\t2C\tF2\t02\t17\tFC" carries two bytes, and "P\t2C\tF2\t00" none
+pub blocks : (said (71 ∷ 9 ∷ 50 ∷ 67 ∷ 9 ∷ 70 ∷ 50 ∷ []) ≡ Fine (ReadBlock 0x2C 0xF2)) × (said (80 ∷ 9 ∷ 50 ∷ 67 ∷ 9 ∷ 70 ∷ 50 ∷ 9 ∷ 48 ∷ 50 ∷ 9 ∷ 49 ∷ 55 ∷ 9 ∷ 70 ∷ 67 ∷ []) ≡ Fine (WriteBlock 0x2C 0xF2)) × (dataOf (80 ∷ 9 ∷ 50 ∷ 67 ∷ 9 ∷ 70 ∷ 50 ∷ 9 ∷ 48 ∷ 50 ∷ 9 ∷ 49 ∷ 55 ∷ 9 ∷ 70 ∷ 67 ∷ []) ≡ 0x17 ∷ 0xFC ∷ []) × (said (80 ∷ 9 ∷ 50 ∷ 67 ∷ 9 ∷ 70 ∷ 50 ∷ 9 ∷ 48 ∷ 48 ∷ []) ≡ Fine (WriteBlock 0x2C 0xF2)) × (dataOf (80 ∷ 9 ∷ 50 ∷ 67 ∷ 9 ∷ 70 ∷ 50 ∷ 9 ∷ 48 ∷ 48 ∷ []) ≡ [])
+unfolding eventBy dataOf letterOf fieldsOf firstField otherFields fieldAt readBlockLine readBlockBy writeBlockLine writeBlockBy isData dataBy threeOf threeBy twoOf twoBy hexesSpelt hexesOf every tab isHex hexValue hexByteOf nibbleOf
+blocks = (refl, refl, refl, refl, refl)
+
+-- "P\t2C\tF2\t02\t17" has a byte too few, "P\t2C\tF2\t00\t17" one too many, and "P\t2C\tF2\t01\t1z" one that is spelled wrong
+pub wrong-blocks : (said (80 ∷ 9 ∷ 50 ∷ 67 ∷ 9 ∷ 70 ∷ 50 ∷ 9 ∷ 48 ∷ 50 ∷ 9 ∷ 49 ∷ 55 ∷ []) ≡ Wrong) × (said (80 ∷ 9 ∷ 50 ∷ 67 ∷ 9 ∷ 70 ∷ 50 ∷ 9 ∷ 48 ∷ 48 ∷ 9 ∷ 49 ∷ 55 ∷ []) ≡ Wrong) × (said (80 ∷ 9 ∷ 50 ∷ 67 ∷ 9 ∷ 70 ∷ 50 ∷ 9 ∷ 48 ∷ 49 ∷ 9 ∷ 49 ∷ 122 ∷ []) ≡ Wrong)
+unfolding eventBy letterOf fieldsOf firstField otherFields fieldAt writeBlockLine writeBlockBy isData threeOf threeBy twoOf twoBy hexesSpelt every isHex hexByteOf nibbleOf
+wrong-blocks = (refl, refl, refl)
 
 -- "K"; "K\t1" has a field too many, and an empty line has no letter
 pub alone : (said (75 ∷ []) ≡ Fine Tick) × (said (75 ∷ 9 ∷ 49 ∷ []) ≡ Wrong) × (said [] ≡ Wrong)

@@ -11,7 +11,7 @@ use Rattle.temperature.specs.declared.Reading.the-variants as reading
 use Rattle.state.specs.declared.Count.{Count}
 use Rattle.state.specs.declared.Count.the-variants as count
 use Rattle.event.specs.declared.Event.{Event}
-use Rattle.event.specs.declared.Event.the-variants.{Temperature, Voltage, Fan, Hot, Pin, Tick, Reset, Write, Read}
+use Rattle.event.specs.declared.Event.the-variants.{Temperature, Voltage, Fan, Hot, Pin, Tick, Reset, Write, Read, ReadBlock, WriteBlock}
 use Rattle.event.specs.Event.{indexIn, readingIn, countIn, levelIn, eventIn}
 use Rattle.text.specs.Number.{saturated}
 use Rattle.parse.specs.declared.Parsed.{Parsed}
@@ -46,6 +46,8 @@ clampedEvent Tick = Tick
 clampedEvent Reset = Reset
 clampedEvent (Write address a byte) = Write address a byte
 clampedEvent (Read address a) = Read address a
+clampedEvent (ReadBlock address command) = ReadBlock address command
+clampedEvent (WriteBlock address command) = WriteBlock address command
 
 unfoldable pub clampedParsed : Parsed → Parsed
 clampedParsed Wrong = Wrong
@@ -92,3 +94,5 @@ clamped-taken made refused Tick = refl
 clamped-taken made refused Reset = refl
 clamped-taken made refused (Write address a byte) = refl
 clamped-taken made refused (Read address a) = refl
+clamped-taken made refused (ReadBlock address command) = refl
+clamped-taken made refused (WriteBlock address command) = refl

@@ -13,17 +13,18 @@ use Rattle.temperature.specs.declared.Reading.the-variants.{Taken}
 use Rattle.event.specs.declared.Event.{Event}
 use Rattle.text.specs.declared.Number.{Number}
 use Rattle.text.specs.declared.Number.the-variants as number
-use Rattle.text.specs.declared.Hex.{Hex}
-use Rattle.text.specs.declared.Hex.the-variants as hex
-use Rattle.text.specs.Fields.{fieldsOf, fieldAt}
+use Rattle.text.specs.Fields.{fieldsOf}
 use Rattle.text.specs.Number.{isSpelt, saturated}
-use Rattle.text.specs.Hex.{hexByteOf}
 use Rattle.text.specs.Saturated.{saturated-spelt}
 use Rattle.parse.specs.declared.Parsed.{Parsed}
 use Rattle.parse.specs.declared.Parsed.the-variants.{Fine}
 use Rattle.parse.specs.declared.Pair.{Pair}
 use Rattle.parse.specs.declared.Pair.the-variants.{Wrong, Of}
-use Rattle.parse.specs.Parse.{indexOf, spelledReading, countOf, temperatureLine, voltageLine, fanLine, hotLine, aloneLine, writeBy, writeLine, readBy, readLine}
+use Rattle.parse.specs.declared.Two.{Two}
+use Rattle.parse.specs.declared.Two.the-variants as two
+use Rattle.parse.specs.declared.Three.{Three}
+use Rattle.parse.specs.declared.Three.the-variants as three
+use Rattle.parse.specs.Parse.{indexOf, spelledReading, countOf, temperatureLine, voltageLine, fanLine, hotLine, aloneLine, twoOf, threeOf, writeBy, writeLine, readBy, readLine, readBlockBy, readBlockLine, isData, writeBlockBy, writeBlockLine}
 use Rattle.parse.specs.Pairs.{bothOf, pairLine}
 use Rattle.parse.specs.Clamped.{saturatedPair, clampedIndex, clampedReading, clampedCount, clampedEvent, clampedParsed}
 
@@ -104,30 +105,47 @@ pair-held letter p =
     (pick-related SameClamped (eqb letter 84) (temperature-held p)
     (pick-related SameClamped (eqb letter 86) (voltage-held p) refl)))
 
--- a letter alone, and bus fields, have no number to hold
-pub alone-clamped : (e : Event) (s : List ℕ) → clampedEvent e ≡ e → clampedParsed (aloneLine e s) ≡ aloneLine e s
+-- ---- a letter alone, and bus fields, have no number to hold
+
+abbrev Kept : Parsed → Type 0
+Kept p = clampedParsed p ≡ p
+
+pub alone-clamped : (e : Event) (s : List ℕ) → clampedEvent e ≡ e → Kept (aloneLine e s)
 unfolding clampedParsed aloneLine
-alone-clamped e s h = pick-each (λ (p : Parsed). clampedParsed p ≡ p) (eqb (length (fieldsOf s)) 1) (ap Fine h) refl
+alone-clamped e s h = pick-each Kept (eqb (length (fieldsOf s)) 1) (ap Fine h) refl
 
-write-by-clamped : (a r b : Hex) → clampedParsed (writeBy a r b) ≡ writeBy a r b
+write-by-clamped : (t : Three) → Kept (writeBy t)
 unfolding clampedParsed clampedEvent writeBy
-write-by-clamped hex.Wrong r b = refl
-write-by-clamped (hex.Byte a) hex.Wrong b = refl
-write-by-clamped (hex.Byte a) (hex.Byte r) hex.Wrong = refl
-write-by-clamped (hex.Byte a) (hex.Byte r) (hex.Byte b) = refl
+write-by-clamped three.Wrong = refl
+write-by-clamped (three.Of a r b) = refl
 
-read-by-clamped : (a r : Hex) → clampedParsed (readBy a r) ≡ readBy a r
+read-by-clamped : (t : Two) → Kept (readBy t)
 unfolding clampedParsed clampedEvent readBy
-read-by-clamped hex.Wrong r = refl
-read-by-clamped (hex.Byte a) hex.Wrong = refl
-read-by-clamped (hex.Byte a) (hex.Byte r) = refl
+read-by-clamped two.Wrong = refl
+read-by-clamped (two.Of a r) = refl
 
-pub write-clamped : (s : List ℕ) → clampedParsed (writeLine s) ≡ writeLine s
+read-block-by-clamped : (t : Two) → Kept (readBlockBy t)
+unfolding clampedParsed clampedEvent readBlockBy
+read-block-by-clamped two.Wrong = refl
+read-block-by-clamped (two.Of a command) = refl
+
+write-block-by-clamped : (t : Three) (s : List ℕ) → Kept (writeBlockBy t s)
+unfolding clampedParsed clampedEvent writeBlockBy
+write-block-by-clamped three.Wrong s = refl
+write-block-by-clamped (three.Of a command n) s = pick-each Kept (isData n s) refl refl
+
+pub write-clamped : (s : List ℕ) → Kept (writeLine s)
 unfolding clampedParsed writeLine
-write-clamped s =
-    pick-each (λ (p : Parsed). clampedParsed p ≡ p) (eqb (length (fieldsOf s)) 4) (write-by-clamped (hexByteOf (fieldAt s 1)) (hexByteOf (fieldAt s 2)) (hexByteOf (fieldAt s 3))) refl
+write-clamped s = pick-each Kept (eqb (length (fieldsOf s)) 4) (write-by-clamped (threeOf s)) refl
 
-pub read-clamped : (s : List ℕ) → clampedParsed (readLine s) ≡ readLine s
+pub read-clamped : (s : List ℕ) → Kept (readLine s)
 unfolding clampedParsed readLine
-read-clamped s =
-    pick-each (λ (p : Parsed). clampedParsed p ≡ p) (eqb (length (fieldsOf s)) 3) (read-by-clamped (hexByteOf (fieldAt s 1)) (hexByteOf (fieldAt s 2))) refl
+read-clamped s = pick-each Kept (eqb (length (fieldsOf s)) 3) (read-by-clamped (twoOf s)) refl
+
+pub read-block-clamped : (s : List ℕ) → Kept (readBlockLine s)
+unfolding clampedParsed readBlockLine
+read-block-clamped s = pick-each Kept (eqb (length (fieldsOf s)) 3) (read-block-by-clamped (twoOf s)) refl
+
+pub write-block-clamped : (s : List ℕ) → Kept (writeBlockLine s)
+unfolding writeBlockLine
+write-block-clamped s = write-block-by-clamped (threeOf s) s

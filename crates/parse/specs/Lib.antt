@@ -5,4 +5,5 @@ pub mod Walked
 pub mod Unseen
 pub mod Clamped
 pub mod Held
+pub mod Data
 pub mod Cases

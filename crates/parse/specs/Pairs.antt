@@ -31,8 +31,8 @@ pub pair-wrong : (letter : ℕ) → pairLine letter Wrong ≡ parsed.Wrong
 unfolding pairLine temperatureLine voltageLine fanLine hotLine
 pair-wrong letter = simp pick-same
 
--- a line says what its pair says, unless its letter is A, K, R, W or X
-pub event-pair : (letter : ℕ) (s : List ℕ) → (letter ≡ 65 → ⊥) → (letter ≡ 75 → ⊥) → (letter ≡ 82 → ⊥) → (letter ≡ 87 → ⊥) → (letter ≡ 88 → ⊥) → eventBy letter s ≡ pairLine letter (pairOf s)
+-- a line says what its pair says, unless its letter is A, G, K, P, R, W or X
+pub event-pair : (letter : ℕ) (s : List ℕ) → (letter ≡ 65 → ⊥) → (letter ≡ 71 → ⊥) → (letter ≡ 75 → ⊥) → (letter ≡ 80 → ⊥) → (letter ≡ 82 → ⊥) → (letter ≡ 87 → ⊥) → (letter ≡ 88 → ⊥) → eventBy letter s ≡ pairLine letter (pairOf s)
 unfolding eventBy pairLine
-event-pair letter s a k r w x =
-    rw (ne-eqb letter 65 a, ne-eqb letter 75 k, ne-eqb letter 82 r, ne-eqb letter 87 w, ne-eqb letter 88 x)
+event-pair letter s a g k p r w x =
+    rw (ne-eqb letter 65 a, ne-eqb letter 71 g, ne-eqb letter 75 k, ne-eqb letter 80 p, ne-eqb letter 82 r, ne-eqb letter 87 w, ne-eqb letter 88 x)

@@ -1,11 +1,14 @@
-// A line of text as an event (document 01, "Lines and refusals"). The ranges of its numbers are the event's own business.
+// A line of text as an event (document 01, "Lines and refusals"; document 02, Q-1). The ranges of its numbers are the event's own business.
 ghost use mathlib.Core.Path.{_≡_};
-ghost use Prim.Native.Nat.{min};
+ghost use mathlib.Core.List.{_++_};
+ghost use Prim.Native.Nat.{_≤_, min};
 ghost use lib.IntN.{pos, negℤ};
+ghost use lib.ListN.{length, drop};
 ghost use Rattle.text.specs.Number.{saturated};
-ghost use Rattle.parse.specs.Parse.{numberAt, letterOf, indexOf, spelledReading, countOf, pairOf, pinLine, aloneLine, writeBy, writeLine, readBy, readLine, eventBy, eventOf};
+ghost use Rattle.parse.specs.Parse.{numberAt, letterOf, indexOf, spelledReading, countOf, pairOf, pinLine, aloneLine, twoBy, twoOf, threeBy, threeOf, writeLine, readLine, readBlockLine, isData, writeBlockLine, eventBy, eventOf, dataBy, dataOf};
 ghost use Rattle.parse.specs.Clamped.{saturatedPair, clampedIndex, clampedReading, clampedCount, clampedParsed};
 ghost use Rattle.parse.specs.Pairs.{bothOf, pairLine};
+use event::BLOCK_MOST;
 use event::Event;
 use state::Count;
 use temperature::Reading;
@@ -13,6 +16,9 @@ use text::Hex;
 use text::Number;
 
 const TAB: u8 = 9;
+
+// The first field of a P line's data.
+const DATA: usize = 4;
 
 // What a line says: nothing that is spelled right, or an event.
 pub enum Parsed {
@@ -24,6 +30,18 @@ pub enum Parsed {
 pub enum Pair {
     Wrong,
     Of(Number, Number),
+}
+
+// Two bus fields, both spelled right.
+pub enum Two {
+    Wrong,
+    Of(u8, u8),
+}
+
+// Three.
+pub enum Three {
+    Wrong,
+    Of(u8, u8, u8),
 }
 
 // ---- numbers
@@ -172,23 +190,45 @@ fn alone_line(line: &[u8], event: Event) -> Parsed
     Parsed::Fine(event)
 }
 
-fn write_by(address: Hex, register: Hex, byte: Hex) -> Parsed
-    ensures { λ r. ⌜ r ≡ writeBy address register byte ⌝ }
+// ---- bus fields
+
+fn two_by(first: Hex, second: Hex) -> Two
+    ensures { λ r. ⌜ r ≡ twoBy first second ⌝ }
 {
-    let Hex::Byte(a) = address else {
-        return Parsed::Wrong;
+    let Hex::Byte(a) = first else {
+        return Two::Wrong;
     };
-    let Hex::Byte(r) = register else {
-        return Parsed::Wrong;
+    let Hex::Byte(b) = second else {
+        return Two::Wrong;
     };
-    let Hex::Byte(b) = byte else {
-        return Parsed::Wrong;
+    Two::Of(a, b)
+}
+
+fn two_of(line: &[u8]) -> Two
+    ensures { λ r. ⌜ r ≡ twoOf (now (line .entry)) ⌝ }
+{
+    two_by(
+        text::hex_byte(text::field(line, 1)),
+        text::hex_byte(text::field(line, 2)),
+    )
+}
+
+fn three_by(two: Two, third: Hex) -> Three
+    ensures { λ r. ⌜ r ≡ threeBy two third ⌝ }
+{
+    let Two::Of(a, b) = two else {
+        return Three::Wrong;
     };
-    Parsed::Fine(Event::Write {
-        address: a,
-        register: r,
-        byte: b,
-    })
+    let Hex::Byte(c) = third else {
+        return Three::Wrong;
+    };
+    Three::Of(a, b, c)
+}
+
+fn three_of(line: &[u8]) -> Three
+    ensures { λ r. ⌜ r ≡ threeOf (now (line .entry)) ⌝ }
+{
+    three_by(two_of(line), text::hex_byte(text::field(line, 3)))
 }
 
 fn write_line(line: &[u8]) -> Parsed
@@ -197,26 +237,14 @@ fn write_line(line: &[u8]) -> Parsed
     if text::count_fields(line) != 4 {
         return Parsed::Wrong;
     }
-    write_by(
-        text::hex_byte(text::field(line, 1)),
-        text::hex_byte(text::field(line, 2)),
-        text::hex_byte(text::field(line, 3)),
-    )
-}
-
-fn read_by(address: Hex, register: Hex) -> Parsed
-    ensures { λ r. ⌜ r ≡ readBy address register ⌝ }
-{
-    let Hex::Byte(a) = address else {
-        return Parsed::Wrong;
-    };
-    let Hex::Byte(r) = register else {
-        return Parsed::Wrong;
-    };
-    Parsed::Fine(Event::Read {
-        address: a,
-        register: r,
-    })
+    match three_of(line) {
+        Three::Wrong => Parsed::Wrong,
+        Three::Of(a, r, b) => Parsed::Fine(Event::Write {
+            address: a,
+            register: r,
+            byte: b,
+        }),
+    }
 }
 
 fn read_line(line: &[u8]) -> Parsed
@@ -225,11 +253,64 @@ fn read_line(line: &[u8]) -> Parsed
     if text::count_fields(line) != 3 {
         return Parsed::Wrong;
     }
-    read_by(
-        text::hex_byte(text::field(line, 1)),
-        text::hex_byte(text::field(line, 2)),
-    )
+    match two_of(line) {
+        Two::Wrong => Parsed::Wrong,
+        Two::Of(a, r) => Parsed::Fine(Event::Read {
+            address: a,
+            register: r,
+        }),
+    }
 }
+
+fn read_block_line(line: &[u8]) -> Parsed
+    ensures { λ r. ⌜ r ≡ readBlockLine (now (line .entry)) ⌝ }
+{
+    if text::count_fields(line) != 3 {
+        return Parsed::Wrong;
+    }
+    match two_of(line) {
+        Two::Wrong => Parsed::Wrong,
+        Two::Of(a, command) => Parsed::Fine(Event::ReadBlock {
+            address: a,
+            command: command,
+        }),
+    }
+}
+
+// Whether a line has as many bytes behind its count as that says, all spelled right.
+fn is_data(n: u8, line: &[u8]) -> bool
+    ensures { λ r. ⌜ r ≡ isData n (now (line .entry)) ⌝ }
+{
+    let count = n as usize;
+    if BLOCK_MOST < count {
+        return false;
+    }
+    if text::count_fields(line) != DATA + count {
+        return false;
+    }
+    let mut bytes = [0u8; BLOCK_MOST];
+    text::hex_fields(line, DATA, &mut bytes[..count])
+}
+
+fn write_block_line(line: &[u8]) -> Parsed
+    ensures { λ r. ⌜ r ≡ writeBlockLine (now (line .entry)) ⌝ }
+{
+    match three_of(line) {
+        Three::Wrong => Parsed::Wrong,
+        Three::Of(a, command, n) => {
+            if is_data(n, line) {
+                Parsed::Fine(Event::WriteBlock {
+                    address: a,
+                    command: command,
+                })
+            } else {
+                Parsed::Wrong
+            }
+        }
+    }
+}
+
+// ---- the event
 
 // The letter of a line; 0, which is none, where its first field is not one byte.
 pub fn letter_of(line: &[u8]) -> u8
@@ -257,7 +338,9 @@ fn event_by(letter: u8, line: &[u8]) -> Parsed
 {
     match letter {
         b'A' => pin_line(line),
+        b'G' => read_block_line(line),
         b'K' => alone_line(line, Event::Tick),
+        b'P' => write_block_line(line),
         b'R' => read_line(line),
         b'W' => write_line(line),
         b'X' => alone_line(line, Event::Reset),
@@ -270,4 +353,43 @@ pub fn event_of(line: &[u8]) -> Parsed
     ensures { λ r. ⌜ r ≡ clampedParsed (eventOf (now (line .entry))) ⌝ }
 {
     event_by(letter_of(line), line)
+}
+
+// ---- the bytes beside the event
+
+// A count, up to the longest block.
+fn block_count(n: u8) -> usize
+    ensures { λ r. ⌜ r ≡ min n 32 ⌝ }
+{
+    let count = n as usize;
+    if count < BLOCK_MOST {
+        count
+    } else {
+        BLOCK_MOST
+    }
+}
+
+// The bytes of data of a line that begins with P.
+fn block_data(line: &[u8], bytes: &mut [u8]) -> usize
+    requires { ⌜ 32 ≤ length (now bytes) ⌝ }
+    ensures { λ r. ⌜ (r ≡ length (dataBy (threeOf (now (line .entry))) (now (line .entry)))) × (now (bytes .exit) ≡ dataBy (threeOf (now (line .entry))) (now (line .entry)) ++ drop (length (dataBy (threeOf (now (line .entry))) (now (line .entry)))) (now (bytes .entry))) ⌝ }
+{
+    let Three::Of(_, _, n) = three_of(line) else {
+        return 0;
+    };
+    let count = block_count(n);
+    text::hex_fields(line, DATA, &mut bytes[..count]);
+    count
+}
+
+// The bytes of data that a P line carries, at the start of the lent buffer, and how many; none of any other line.
+pub fn data_of(line: &[u8], bytes: &mut [u8; BLOCK_MOST]) -> usize
+    ensures { λ r. ⌜ (r ≡ length (dataOf (now (line .entry)))) × (now (bytes .exit) ≡ dataOf (now (line .entry)) ++ drop (length (dataOf (now (line .entry)))) (now (bytes .entry))) ⌝ }
+{
+    if line.len() > 0 {
+        if line[0] == b'P' {
+            return block_data(line, bytes);
+        }
+    }
+    0
 }

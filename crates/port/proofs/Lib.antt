@@ -1,2 +1,3 @@
 -- What the proofs of the port cite.
 pub mod Part
+pub mod Walk

@@ -1,5 +1,5 @@
 // The chip that stays with the caller: each function calls the one that takes the chip by value, and stores back what it gives.
-ghost use Rattle.port.specs.Port.{PowersOn, TakesEvent, TakesLine, Dumps};
+ghost use Rattle.port.specs.Port.{PowersOn, TakesEvent, TakesLine, Dumps, ShowsBlock};
 use bus::Dumped;
 use event::Answer;
 use event::Event;
@@ -17,11 +17,11 @@ pub fn power_on(chip: &mut Chip, setup: Setup) -> u8
     done.refusal
 }
 
-// One event.
-pub fn take_event(chip: &mut Chip, event: Event) -> Answer
-    ensures { λ r. ⌜ TakesEvent (now (chip .entry)) event r (now (chip .exit)) ⌝ }
+// One event, with the bytes beside it.
+pub fn take_event(chip: &mut Chip, event: Event, bytes: &[u8]) -> Answer
+    ensures { λ r. ⌜ TakesEvent (now (chip .entry)) event (now (bytes .entry)) r (now (chip .exit)) ⌝ }
 {
-    let done = event::step(*chip, event);
+    let done = event::step(*chip, event, bytes);
     *chip = done.chip;
     done.answer
 }
@@ -40,4 +40,12 @@ pub fn dump(chip: &Chip, out: &mut [u8]) -> Dumped
     ensures { λ r. ⌜ Dumps (now (chip .entry)) (now (out .entry)) r (now (out .exit)) ⌝ }
 {
     event::dump(*chip, out)
+}
+
+// What the registers from the first on show, as many as bytes are lent, of a chip that is only looked at: of a block read that was
+// acknowledged, its bytes.
+pub fn show_block(chip: &Chip, first: u8, bytes: &mut [u8])
+    ensures { λ r. ⌜ ShowsBlock (now (chip .entry)) first (now (bytes .entry)) (now (bytes .exit)) ⌝ }
+{
+    event::show_block(*chip, first, bytes);
 }

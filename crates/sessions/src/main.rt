@@ -2,10 +2,9 @@
 use libc::STDIN_FILENO;
 use libc::STDOUT_FILENO;
 use line::Session;
+use text::BLOCK_ROOM;
 
 const INPUT: usize = 32768;
-
-const ROOM: usize = 64;
 
 // A session, and the number of its next line.
 struct Run {
@@ -30,7 +29,7 @@ fn write_first(out: &[u8], n: usize) {
 
 // Gives a line to the chip and writes what it prints.
 fn give(run: Run, line: &[u8]) -> Run {
-    let mut out = [0u8; ROOM];
+    let mut out = [0u8; BLOCK_ROOM];
     let session = run.session;
     let taken = line::take_line(session, line, &mut out);
     let reply = taken.reply;

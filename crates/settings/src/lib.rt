@@ -1,6 +1,6 @@
 // The setup that an S line carries (document 01, "Setup").
 ghost use mathlib.Core.Path.{_≡_};
-ghost use Prim.Native.Nat.{ℕ, suc, _+_, _≤_, _<_};
+ghost use Prim.Native.Nat.{_+_, _≤_, _<_};
 ghost use lib.ListN.{length, drop};
 ghost use Rattle.laws.specs.Tab.{tab};
 ghost use Rattle.laws.specs.Every.{every};
@@ -47,19 +47,6 @@ pub const SPELLING: u8 = 4;
 
 // ---- the numbers as they are spelled
 
-// Where the field behind the one at a place begins, or the line's end.
-fn next_field(line: &[u8], at: usize) -> usize
-    requires { ⌜ at ≤ length (now line) ⌝ }
-    ensures within { λ r. ⌜ r ≤ length (now (line .entry)) ⌝ }
-    ensures begins { λ r. ⌜ ((j : ℕ) → fieldAt (drop r (now (line .entry))) j ≡ fieldAt (drop at (now (line .entry))) (suc j)) ⌝ }
-{
-    let w = text::width(&line[at..]);
-    if w < line.len() - at {
-        return at + w + 1;
-    }
-    line.len()
-}
-
 // The number in the field at a place.
 fn number_from(line: &[u8], at: usize) -> Number
     requires { ⌜ at ≤ length (now line) ⌝ }
@@ -78,14 +65,14 @@ fn entries_of(line: &[u8]) -> [Entry; places::NUMBERS]
         number: Number::Wrong,
     };
     let mut entries = [blank; places::NUMBERS];
-    let mut at = next_field(line, 0);
+    let mut at = text::next_field(line, 0);
     let mut k: usize = 0;
     while k < places::NUMBERS {
         let entry = Entry {
             number: number_from(line, at),
         };
         entries[k] = entry;
-        at = next_field(line, at);
+        at = text::next_field(line, at);
         k += 1;
     }
     entries

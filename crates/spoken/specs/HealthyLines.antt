@@ -5,7 +5,7 @@ use mathlib.Core.List.{List, [], _∷_}
 use Prim.Native.Nat.{ℕ, _≤_}
 use lib.Dec.{T}
 use Rattle.map.specs.Bits.{isSet}
-use Rattle.map.specs.Names.{CONFIGURATION, GMSK}
+use Rattle.map.specs.Names.{CONFIGURATION, FIXED-BLOCK-0, FIXED-BLOCK-1, GMSK}
 use Rattle.state.specs.declared.Count.the-variants.{Missing}
 use Rattle.state.specs.Parts.{registerAt}
 use Rattle.state.specs.PowerOn.{defaultSetup}
@@ -13,6 +13,7 @@ use Rattle.bus.specs.Read.{shownRegister}
 use Rattle.event.specs.declared.Tick.{Tick as Shown}
 use Rattle.event.specs.Lasting.{Sized, power-sized, step-sized}
 use Rattle.text.specs.Answers.{tickText}
+use Rattle.parse.specs.Parse.{dataOf}
 use Rattle.line.specs.declared.Session.{Session}
 use Rattle.line.specs.declared.Asked.{Asked}
 use Rattle.line.specs.declared.Asked.the-variants as asked
@@ -20,8 +21,10 @@ use Rattle.line.specs.Line.{Judged, startSession, askedText, refusedLine, begun
 use Rattle.line.specs.Session.{sessionAfter, printedBy}
 use Rattle.theorems.specs.Sensors.{Sensor, isWatched, giving, bmcRegister, hostRegister, errorBit, LooksBroken}
 use Rattle.theorems.specs.Unread.{countAt, power-unread, step-unread, unread-broken}
+use Rattle.spoken.specs.TakenLine.{givenBy}
 use Rattle.spoken.specs.TickLine.{K, tick-line}
 use Rattle.spoken.specs.ReadLines.{PrintsBit, bit-printed}
+use Rattle.spoken.specs.BlockLines.{PrintsBitIn, block-printed}
 
 -- no line gives the sensor a taken reading, from a session on; a line that is refused may say anything, since it asks for no event
 pub data NeverReadBy (x : Sensor) : Session → List (List ℕ) → Type 0 where
@@ -29,7 +32,7 @@ pub data NeverReadBy (x : Sensor) : Session → List (List ℕ) → Type 0 where
   more : {s : Session} {l : List ℕ} {ls : List (List ℕ)} → ((n : ℕ) → askedText (s .begun) l ≡ asked.Event (giving x n) → ⊥) → NeverReadBy x (judgedLine s l .session) ls → NeverReadBy x s (l ∷ ls)
 
 -- a line that is taken and prints a tick with an error, and with ALERT unless GMSK is set; after it both groups show the sensor's bit, and R
--- lines print it
+-- lines print it, and so do G lines of F2h, the BMC group, and of F3h, the Host group
 pub record PrintsBroken (x : Sensor) (line : Judged) : Type 0 where
   pub taken : line .refusal ≡ 0
   pub tick : Shown
@@ -40,6 +43,8 @@ pub record PrintsBroken (x : Sensor) (line : Judged) : Type 0 where
   pub in-host : T (isSet (shownRegister (line .session .chip) (hostRegister x)) (errorBit x))
   pub read-bmc : PrintsBit (line .session) (bmcRegister x) (errorBit x)
   pub read-host : PrintsBit (line .session) (hostRegister x) (errorBit x)
+  pub block-bmc : PrintsBitIn (line .session) FIXED-BLOCK-0 (bmcRegister x) (errorBit x)
+  pub block-host : PrintsBitIn (line .session) FIXED-BLOCK-1 (hostRegister x) (errorBit x)
 
 -- ---- K
 
@@ -56,6 +61,8 @@ broken-prints x s b = rw (tick-line s) (record {
   in-host = b .in-host;
   read-bmc = bit-printed _ _ _ (b .in-bmc);
   read-host = bit-printed _ _ _ (b .in-host);
+  block-bmc = block-printed _ _ _ _ (b .block-bmc);
+  block-host = block-printed _ _ _ _ (b .block-host);
 })
 
 -- ---- the lines before it
@@ -71,7 +78,7 @@ unfolding judgedBy setupLine refusedLine eventLine begunLine
 asked-unread x s l asked.Setup h u = record { sized = power-sized _; missing = power-unread x _ }
 asked-unread x s l (asked.Refused n) h u = u
 asked-unread x s l (asked.Event e) h u =
-    record { sized = step-sized (u .sized) e; missing = step-unread x (s .chip) e (λ r n q. h n (ap asked.Event q)) (u .missing) }
+    record { sized = step-sized (u .sized) e (dataOf l); missing = step-unread x (s .chip) (givenBy l e) (λ t n q. h n (ap asked.Event q)) (u .missing) }
 
 -- so do the lines, one after the other
 stays-unread : {x : Sensor} {s : Session} {ls : List (List ℕ)} → NeverReadBy x s ls → Unread x s → Unread x (sessionAfter s ls)
@@ -79,8 +86,8 @@ unfolding sessionAfter judgedLine
 stays-unread none u = u
 stays-unread {x} {s} (more {l = l} h rest) u = stays-unread rest (asked-unread x s l (askedText (s .begun) l) h u)
 
--- A sensor that was never read, and is watched when a line K comes, looks broken in what that line prints and R lines after it. The lines are
--- any that can come before a K.
+-- A sensor that was never read, and is watched when a line K comes, looks broken in what that line prints and R and G lines after it. The
+-- lines are any that can come before a K, G and P among them.
 pub never-read-lines : (x : Sensor) (ls : List (List ℕ)) → NeverReadBy x startSession ls → T (isWatched x (sessionAfter startSession ls .chip)) → PrintsBroken x (judgedLine (sessionAfter startSession ls) K)
 unfolding startSession
 never-read-lines x ls r w =

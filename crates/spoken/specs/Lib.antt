@@ -1,8 +1,10 @@
 pub mod Lines
+pub mod Carried
 pub mod TakenLine
 pub mod HotterLines
-pub mod Cases
 pub mod TickLine
+pub mod Cases
 pub mod ReadLines
+pub mod BlockLines
 pub mod HealthyLines
 pub mod WrongLines

@@ -3,13 +3,15 @@
 use mathlib.Core.Path.{_≡_}
 use mathlib.Core.List.{List, [], _∷_}
 use Prim.Native.Nat.{ℕ}
+use Rattle.temperature.specs.declared.Reading.{Reading}
+use Rattle.temperature.specs.Order.{NoHotter}
 use Rattle.event.specs.declared.Event.{Event}
+use Rattle.event.specs.declared.Event.the-variants.{Temperature}
 use Rattle.event.specs.declared.Answer.{Answer}
 use Rattle.parse.specs.declared.Parsed.the-variants.{Fine}
-use Rattle.parse.specs.Parse.{eventOf}
+use Rattle.parse.specs.Parse.{eventOf, dataOf}
 use Rattle.line.specs.declared.Session.{Session}
 use Rattle.line.specs.Line.{judgedLine}
-use Rattle.theorems.specs.Alike.{Alike}
 
 -- what each line answers, from a session on
 unfoldable pub answersOf : Session → List (List ℕ) → List Answer
@@ -21,10 +23,12 @@ pub data AllTaken : Session → List (List ℕ) → Type 0 where
   none : {s : Session} → AllTaken s []
   more : {s : Session} {l : List ℕ} {ls : List (List ℕ)} → judgedLine s l .refusal ≡ 0 → AllTaken (judgedLine s l .session) ls → AllTaken s (l ∷ ls)
 
--- the same line, or lines that say alike events: the same event, or a T event for the same zone that is hotter in the second
+-- the same line, whatever it says, lines that say the same event with the same bytes, or lines that say T events for the same zone, the
+-- second hotter
 pub data LinesAlike : List ℕ → List ℕ → Type 0 where
   same : (l : List ℕ) → LinesAlike l l
-  events : {l m : List ℕ} {e f : Event} → eventOf l ≡ Fine e → eventOf m ≡ Fine f → Alike e f → LinesAlike l m
+  said : {l m : List ℕ} {e : Event} → eventOf l ≡ Fine e → eventOf m ≡ Fine e → dataOf l ≡ dataOf m → LinesAlike l m
+  hotter : {l m : List ℕ} {zone : ℕ} {q r : Reading} → eventOf l ≡ Fine (Temperature zone q) → eventOf m ≡ Fine (Temperature zone r) → NoHotter q r → LinesAlike l m
 
 -- alike place by place
 pub data AllLinesAlike : List (List ℕ) → List (List ℕ) → Type 0 where

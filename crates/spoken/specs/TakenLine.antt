@@ -6,15 +6,16 @@ use Prim.Native.Nat.{ℕ}
 use native.Mathlib.Omega.{arith}
 use lib.Dec.{eqb, ltb}
 use lib.ListN.{length}
-use borrow.Author.Tests.{eqb-false}
+use borrow.Author.Tests.{eqb-true, eqb-false}
 use Rattle.laws.specs.Pick.{pick}
 use Rattle.state.specs.Valid.{Valid}
 use Rattle.event.specs.declared.Event.{Event}
-use Rattle.event.specs.Event.{eventIn, refusalOf}
+use Rattle.event.specs.Event.{refusalOf}
+use Rattle.event.specs.Run.{Given}
 use Rattle.event.specs.Refusal.{in-taken}
 use Rattle.parse.specs.declared.Parsed.{Parsed}
 use Rattle.parse.specs.declared.Parsed.the-variants.{Wrong, Fine}
-use Rattle.parse.specs.Parse.{letterOf, eventOf}
+use Rattle.parse.specs.Parse.{letterOf, eventOf, dataOf}
 use Rattle.settings.specs.Settings.{settingsOf}
 use Rattle.settings.specs.InRange.{settings-valid}
 use Rattle.line.specs.declared.Session.{Session}
@@ -23,9 +24,13 @@ use Rattle.line.specs.declared.Asked.the-variants as asked
 use Rattle.line.specs.Line.{Judged, askedEvent, askedSettings, askedOther, askedBy, askedText, refusedLine, setupLine, eventLine, judgedBy, judgedLine}
 use Rattle.theorems.specs.Steps.{NotRefused}
 
+-- an event as a line gives it, with the bytes that the line carries
+abbrev pub givenBy : List ℕ → Event → Given
+givenBy l e = record { event = e; bytes = dataOf l }
+
 -- what a taken line makes of a session, by the event that it says; an S line says none
 pub data Takes (s : Session) (l : List ℕ) : Parsed → Judged → Type 0 where
-  event : {e : Event} → NotRefused (s .chip) e → Takes s l (Fine e) (eventLine (s .chip) e)
+  event : {e : Event} → NotRefused (s .chip) (givenBy l e) → Takes s l (Fine e) (eventLine (s .chip) e (dataOf l))
   setup : Valid (settingsOf l .setup) → Takes s l Wrong (setupLine l)
 
 module _ (s : Session) (l : List ℕ) where
@@ -33,14 +38,17 @@ module _ (s : Session) (l : List ℕ) where
   abbrev made : Asked → Judged
   made a = judgedBy s l a
 
-  -- an event in range is not refused
-  event-takes : (e : Event) → made (askedEvent e) .refusal ≡ 0 → Takes s l (Fine e) (made (askedEvent e))
-  unfolding askedEvent refusalOf judgedBy refusedLine
-  event-takes e = go (eventIn e) refl
+  -- an event whose number is 0 is not refused
+  event-takes : (e : Event) → made (askedEvent e (dataOf l)) .refusal ≡ 0 → Takes s l (Fine e) (made (askedEvent e (dataOf l)))
+  unfolding askedEvent judgedBy refusedLine
+  event-takes e = go (eqb number 0) refl
     where
-      go : (b : Bool) → eventIn e ≡ b → made (pick b (asked.Event e) (asked.Refused (pick b 0 2))) .refusal ≡ 0 → Takes s l (Fine e) (made (pick b (asked.Event e) (asked.Refused (pick b 0 2))))
-      go true i z = event (in-taken (s .chip) e i)
-      go false o z = absurd (omega arith)
+      number : ℕ
+      number = refusalOf e (dataOf l)
+
+      go : (b : Bool) → eqb number 0 ≡ b → made (pick b (asked.Event e) (asked.Refused number)) .refusal ≡ 0 → Takes s l (Fine e) (made (pick b (asked.Event e) (asked.Refused number)))
+      go true i z = event (in-taken (s .chip) e (dataOf l) (eqb-true number 0 i))
+      go false o z = absurd (eqb-false number 0 o z)
 
   -- an S line: a refusal of its settings that is none of the tests is not 0
   settings-takes : (refusal : ℕ) → made (askedSettings (s .begun) refusal) .refusal ≡ 0 → Takes s l Wrong (made (askedSettings (s .begun) refusal))

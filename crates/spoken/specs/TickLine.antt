@@ -4,9 +4,9 @@ use mathlib.Core.Bool.{Bool}
 use mathlib.Core.List.{List, [], _∷_}
 use Prim.Native.Nat.{ℕ}
 use Rattle.event.specs.declared.Event.the-variants.{Tick}
-use Rattle.event.specs.Event.{eventIn}
+use Rattle.event.specs.Event.{eventIn, refusalOf}
 use Rattle.text.specs.Fields.{firstField, otherFields, fieldsOf, fieldAt}
-use Rattle.parse.specs.Parse.{letterOf, aloneLine, eventBy}
+use Rattle.parse.specs.Parse.{letterOf, aloneLine, eventBy, dataOf}
 use Rattle.line.specs.declared.Session.{Session}
 use Rattle.line.specs.declared.Asked.the-variants as asked
 use Rattle.line.specs.Line.{askedEvent, askedBy, askedText, eventLine, judgedBy, judgedLine}
@@ -17,10 +17,10 @@ K = 75 ∷ []
 
 -- whether or not a line was taken before
 pub tick-asked : (begun : Bool) → askedText begun K ≡ asked.Event Tick
-unfolding askedText askedBy askedEvent eventIn eventBy letterOf fieldsOf firstField otherFields fieldAt aloneLine
+unfolding askedText askedBy askedEvent refusalOf eventIn dataOf eventBy letterOf fieldsOf firstField otherFields fieldAt aloneLine
 tick-asked begun = refl
 
 -- so it is taken, and is a tick, whatever the session
-pub tick-line : (s : Session) → judgedLine s K ≡ eventLine (s .chip) Tick
-unfolding judgedLine judgedBy
+pub tick-line : (s : Session) → judgedLine s K ≡ eventLine (s .chip) Tick []
+unfolding judgedLine judgedBy dataOf
 tick-line s = ap (judgedBy s K) (tick-asked (s .begun))

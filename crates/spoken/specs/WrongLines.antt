@@ -6,12 +6,12 @@ use Prim.Native.Nat.{ℕ, _≤_}
 use borrow.Author.Tests.{le-ltb}
 use lib.ListN.{length}
 use Rattle.line.specs.declared.Reply.{Reply}
-use Rattle.line.specs.Line.{startSession, askedLine, begunLine, eventLine, judgedBy, takenBy, judgedIn, takenLine}
+use Rattle.line.specs.Line.{startSession, roomFor, askedLine, begunLine, eventLine, judgedBy, takenBy, judgedIn, takenLine}
 use Rattle.spoken.specs.TickLine.{K, tick-asked}
 
 -- with room for its answer, the first line of 01's session is taken
 first-taken : (out : List ℕ) → 64 ≤ length out → takenLine startSession K out .reply .refusal ≡ 0
-unfolding takenLine takenBy judgedIn askedLine judgedBy eventLine begunLine startSession
+unfolding takenLine takenBy judgedIn askedLine roomFor judgedBy eventLine begunLine startSession
 first-taken out room = rw (le-ltb (length out) 64 room, tick-asked false)
 
 -- so a program that answers any refusal to it does not answer by the definition

@@ -1,10 +1,10 @@
--- Document 01, "Lines and refusals": the text of the answers. Bytes: 9 is the tab, 10 the line feed, 45 the minus sign, 48 to 57 the digits,
--- 65 to 70 A to F, 69 E, 75 K, 82 R, 87 W. Assumes nothing.
+-- Document 01, "Lines and refusals", and document 02, Q-1: the text of the answers. Bytes: 9 is the tab, 10 the line feed, 45 the minus
+-- sign, 48 to 57 the digits, 65 to 70 A to F, 69 E, 71 G, 75 K, 82 R. Assumes nothing.
 use mathlib.Core.Path.{_≡_}
 use mathlib.Core.Bool.{Bool}
 use mathlib.Core.List.{List, [], _∷_, _++_}
 use Prim.Native.Nat.{ℕ, zero, suc, _+_, _-_, _/_, _%_}
-use lib.Dec.{ltb}
+use lib.Dec.{leb, ltb}
 use lib.ListN.{length, drop}
 use lib.Seq.{sets}
 use Rattle.laws.specs.Pick.{pick}
@@ -29,16 +29,27 @@ hexText b = 9 ∷ hexDigit (b / 16) ∷ hexDigit (b % 16) ∷ []
 unfoldable pub digitOf : Bool → ℕ
 digitOf on = pick on 49 48
 
--- "W prints ack (1 or 0)"
-unfoldable pub ackText : Bool → List ℕ
-ackText ack = 87 ∷ 9 ∷ digitOf ack ∷ 10 ∷ []
+-- "W prints ack (1 or 0)"; 02: "P prints ack"
+unfoldable pub ackText : ℕ → Bool → List ℕ
+ackText letter ack = letter ∷ 9 ∷ digitOf ack ∷ 10 ∷ []
 
 -- "R prints ack and the byte, or `--`"
 unfoldable pub byteText : ℕ → List ℕ
 byteText b = 82 ∷ 9 ∷ 49 ∷ (hexText b ++ (10 ∷ []))
 
-unfoldable pub noByteText : List ℕ
-noByteText = 82 ∷ 9 ∷ 48 ∷ 9 ∷ 45 ∷ 45 ∷ 10 ∷ []
+-- 02: G prints "0 and `--`"
+unfoldable pub noByteText : ℕ → List ℕ
+noByteText letter = letter ∷ 9 ∷ 48 ∷ 9 ∷ 45 ∷ 45 ∷ 10 ∷ []
+
+-- a tab before each byte
+unfoldable pub bytesText : List ℕ → List ℕ
+bytesText [] = []
+bytesText (b ∷ bytes) = hexText b ++ bytesText bytes
+
+-- 02: "a count byte, then the data", "G prints ack, count and bytes as hex fields". A block has at most 32 bytes; more are no block, and of those there is no text
+unfoldable pub blockText : List ℕ → List ℕ
+blockText bytes =
+    pick (leb (length bytes) 32) (71 ∷ 9 ∷ 49 ∷ (hexText (length bytes) ++ (bytesText bytes ++ (10 ∷ [])))) []
 
 -- "K prints alert, duty 1, duty 2, output 1, output 2, errors"
 unfoldable pub tickText : Bool → ℕ → ℕ → ℕ → ℕ → ℕ → List ℕ
@@ -50,14 +61,21 @@ tickText alert duty1 duty2 output1 output2 errors =
 unfoldable pub refusalText : ℕ → ℕ → List ℕ
 refusalText number refusal = 69 ∷ (columnText number ++ (columnText refusal ++ (10 ∷ [])))
 
--- ---- into a lent buffer: one of under 64 bytes stays as it is
+-- ---- into a lent buffer: one that has less than the room for such a text stays as it is
 
-unfoldable pub wroteLength : List ℕ → List ℕ → ℕ
-wroteLength text out = pick (ltb (length out) 64) 0 (length text)
+-- "the lent output has under 64 bytes"; 02: "for a line that begins with G, an output under 128 bytes"
+abbrev pub ROOM : ℕ
+ROOM = 64
+
+abbrev pub BLOCK-ROOM : ℕ
+BLOCK-ROOM = 128
+
+unfoldable pub wroteLength : ℕ → List ℕ → List ℕ → ℕ
+wroteLength room text out = pick (ltb (length out) room) 0 (length text)
 
 -- the text at the start of the buffer; the bytes behind stay
-unfoldable pub wroteInto : List ℕ → List ℕ → List ℕ
-wroteInto text out = pick (ltb (length out) 64) out (text ++ drop (length text) out)
+unfoldable pub wroteInto : ℕ → List ℕ → List ℕ → List ℕ
+wroteInto room text out = pick (ltb (length out) room) out (text ++ drop (length text) out)
 
 -- `after` is `before` with text written from `at` on, where it ends at `next`; the bytes around it are as they were
 pub record Wrote (before : List ℕ) (at : ℕ) (text : List ℕ) (next : ℕ) (after : List ℕ) : Type 0 where

@@ -3,15 +3,15 @@ use mathlib.Core.Path.{_≡_, refl, sym, ap, _∙_}
 use mathlib.Core.List.{List, [], _∷_}
 use mathlib.Core.Logic.{by-cases}
 use Prim.Native.Nat.{ℕ, zero, suc, _+_, _-_, _≤_, _<_}
-use native.Mathlib.Nat.{add-assoc, suc-add, le-of-suc-le-suc, not-suc-le-zero}
+use native.Mathlib.Nat.{add-zero, zero-add, add-assoc, suc-add, le-of-suc-le-suc, not-suc-le-zero}
 use native.Mathlib.Numerals.{sub-one}
-use native.Mathlib.Decide.{ℕ-discrete}
+use native.Mathlib.Decide.{ℕ-discrete, decLt}
 use native.Mathlib.Omega.{arith}
 use lib.ListN.{length, getD, take, drop, length-drop}
 use lib.Seq.{drop-drop, take-length}
-use borrow.Author.Tests.{eq-eqb, ne-eqb}
+use borrow.Author.Tests.{eq-eqb, ne-eqb, lt-ltb, le-ltb}
 use Rattle.laws.specs.Left.{left-some, left-none}
-use Rattle.text.specs.Fields.{firstField, otherFields, fieldsOf, fieldAt}
+use Rattle.text.specs.Fields.{firstField, otherFields, fieldsOf, fieldAt, nextField}
 
 -- ---- one byte
 
@@ -108,10 +108,6 @@ module _ (s : List ℕ) (i w : ℕ) (e : w ≡ length (firstField (drop i s))) w
   pub walk-next : (j : ℕ) → i + w < length s → fieldAt (drop i s) (suc j) ≡ fieldAt (drop (i + w + 1) s) j
   walk-next j h = field-next (drop i s) j (goes-on h) ∙ rw behind-tab
 
-  -- where the line ends with the field, no other is left
-  pub walk-last : i + w ≡ length s → fieldsOf (drop i s) ≡ drop i s ∷ []
-  walk-last h = fields-one (drop i s) (sym e ∙ rw length-drop (omega arith))
-
 -- ---- a loop over the bytes: what is left at i
 
 module _ (s : List ℕ) (i : ℕ) (h : i < length s) where
@@ -153,3 +149,48 @@ module _ (s : List ℕ) (i : ℕ) (h : length s ≤ i) where
   unfolding fieldAt fieldsOf firstField otherFields
   field-left-none zero = refl
   field-left-none (suc k) = rw (left-none s i h)
+
+-- ---- from field to field
+
+module _ (s : List ℕ) (at : ℕ) where
+  -- where the line goes on, the next field begins behind the tab
+  pub next-more : at + length (firstField (drop at s)) < length s → nextField s at ≡ at + length (firstField (drop at s)) + 1
+  unfolding nextField
+  next-more h = rw (lt-ltb _ (length s) h)
+
+  -- else it is the line's end
+  pub next-end : length s ≤ at + length (firstField (drop at s)) → nextField s at ≡ length s
+  unfolding nextField
+  next-end h = rw (le-ltb _ (length s) h)
+
+  -- where there is no other field
+  last : length s ≤ at + length (firstField (drop at s)) → (j : ℕ) → fieldAt (drop (length s) s) j ≡ fieldAt (drop at s) (suc j)
+  unfolding fieldAt fieldsOf
+  last h j =
+      let one = fields-one (drop at s) (omega (arith, first-within (drop at s), length-drop at s)) in
+      let end : length s ≤ length s = omega arith in
+      rw one (sym (field-left-none s (length s) end j) ∙ first-left-none s (length s) end)
+
+  -- what is left there are the fields behind the one at the place
+  pub next-begins : (j : ℕ) → fieldAt (drop (nextField s at) s) j ≡ fieldAt (drop at s) (suc j)
+  next-begins j =
+      by-cases (decLt (at + length (firstField (drop at s))) (length s)) (λ h. rw (next-more h) (sym (walk-next s at _ refl j h)))
+      (λ h. let l : length s ≤ at + length (firstField (drop at s)) = omega arith in rw (next-end l) (last l j))
+
+-- a place of the line at which the fields from field k on are left
+pub record FieldsFrom (s : List ℕ) (at k : ℕ) : Type 0 where
+  pub within : at ≤ length s
+  pub left : (j : ℕ) → fieldAt (drop at s) j ≡ fieldAt s (k + j)
+
+-- as the line's start is
+pub from-start : (s : List ℕ) → FieldsFrom s 0 0
+from-start s = record { within = omega arith; left = λ j. rw zero-add }
+
+module _ {s : List ℕ} {at k : ℕ} (h : FieldsFrom s at k) where
+  -- field k is the first of them
+  pub from-field : fieldAt (drop at s) 0 ≡ fieldAt s k
+  from-field = h .left 0 ∙ rw add-zero
+
+  -- the next place is one field further on
+  pub from-next : {next : ℕ} → next ≤ length s → next ≡ nextField s at → FieldsFrom s next (k + 1)
+  from-next w e = record { within = w; left = λ j. rw (e, next-begins s at j, h .left (suc j)) (ap (fieldAt s) (omega arith)) }

@@ -1,20 +1,27 @@
-// Lines as text: fields in, answers out (document 01, "Lines and refusals").
+// Lines as text: fields in, answers out (document 01, "Lines and refusals"; document 02, Q-1).
 ghost use mathlib.Core.Path.{_≡_};
 ghost use mathlib.Core.List.{[], _∷_};
-ghost use Prim.Native.Nat.{_+_, _≤_, _<_};
+ghost use Prim.Native.Nat.{_+_, _*_, _≤_, _<_};
 ghost use lib.ListN.{length, drop};
+ghost use Rattle.laws.specs.Pick.{both};
 ghost use Rattle.text.specs.Widths.{widthBefore};
-ghost use Rattle.text.specs.Fields.{firstField, fieldsOf, fieldAt};
+ghost use Rattle.text.specs.Fields.{firstField, fieldsOf, fieldAt, nextField};
+ghost use Rattle.text.specs.Walk.{FieldsFrom};
 ghost use Rattle.text.specs.Number.{runOf, saturatedRun, saturated, plusOf, minusOf, decimalOf, isSpelt, oneMore};
-ghost use Rattle.text.specs.Hex.{nibbleOf, hexByteOf};
-ghost use Rattle.text.specs.Answers.{Wrote, digitsText, columnText, hexDigit, hexText, digitOf, ackText, byteText, noByteText, tickText, refusalText, wroteLength, wroteInto};
+ghost use Rattle.text.specs.Hex.{nibbleOf, hexByteOf, isHex, hexValue, hexesSpelt, hexesOf};
+ghost use Rattle.text.specs.Answers.{Wrote, digitsText, columnText, hexDigit, hexText, digitOf, ackText, byteText, noByteText, bytesText, blockText, tickText, refusalText, ROOM, BLOCK-ROOM, wroteLength, wroteInto};
 
 const TAB: u8 = 9;
 
 const LINE_FEED: u8 = 10;
 
-// The least room that an answer is written into.
-const ROOM: usize = 64;
+// The least room that an answer is written into, and the least for that to a block read.
+pub const ROOM: usize = 64;
+
+pub const BLOCK_ROOM: usize = 128;
+
+// The longest block.
+const BLOCK_MOST: usize = 32;
 
 // A decimal field: wrong spelling, "-" alone, or a number, of which all above 65535 count as 65535.
 pub enum Number {
@@ -86,8 +93,7 @@ pub fn count_fields(s: &[u8]) -> usize
 
 // Where field k begins, or the line's end.
 fn field_start(s: &[u8], k: usize) -> usize
-    ensures within { λ r. ⌜ r ≤ length (now (s .entry)) ⌝ }
-    ensures begins { λ r. ⌜ fieldAt (drop r (now (s .entry))) 0 ≡ fieldAt (now (s .entry)) k ⌝ }
+    ensures { λ r. ⌜ FieldsFrom (now (s .entry)) r k ⌝ }
 {
     let mut left = k;
     let mut i = 0;
@@ -111,6 +117,20 @@ pub fn field(s: &[u8], k: usize) -> &[u8]
     let t = &s[a..];
     let e = width(t);
     &t[..e]
+}
+
+// Where the field behind the one at a place begins, or the line's end.
+pub fn next_field(s: &[u8], at: usize) -> usize
+    ensures within { λ r. ⌜ r ≤ length (now (s .entry)) ⌝ }
+    ensures holds { λ r. ⌜ r ≡ nextField (now (s .entry)) at ⌝ }
+{
+    if at < s.len() {
+        let w = width(&s[at..]);
+        if w < s.len() - at {
+            return at + w + 1;
+        }
+    }
+    s.len()
 }
 
 // ---- decimals
@@ -231,6 +251,58 @@ pub fn hex_byte(s: &[u8]) -> Hex
     Hex::Wrong
 }
 
+fn is_hex(hex: Hex) -> bool
+    ensures { λ r. ⌜ r ≡ isHex hex ⌝ }
+{
+    match hex {
+        Hex::Wrong => false,
+        Hex::Byte(_) => true,
+    }
+}
+
+// The byte, 0 where it is spelled wrong.
+fn hex_value(hex: Hex) -> u8
+    ensures { λ r. ⌜ r ≡ hexValue hex ⌝ }
+{
+    match hex {
+        Hex::Wrong => 0,
+        Hex::Byte(b) => b,
+    }
+}
+
+// The bus field at a place.
+fn hex_from(s: &[u8], at: usize) -> Hex
+    requires { ⌜ at ≤ length (now s) ⌝ }
+    ensures { λ r. ⌜ r ≡ hexByteOf (fieldAt (drop at (now (s .entry))) 0) ⌝ }
+{
+    let t = &s[at..];
+    let w = width(t);
+    hex_byte(&t[..w])
+}
+
+fn both_hold(a: bool, b: bool) -> bool
+    ensures { λ r. ⌜ r ≡ both a b ⌝ }
+{
+    if a { b } else { false }
+}
+
+// The bus fields from field k on, as many as bytes are lent, and whether all of them are spelled right.
+pub fn hex_fields(s: &[u8], k: usize, bytes: &mut [u8]) -> bool
+    ensures { λ r. ⌜ (r ≡ hexesSpelt (now (s .entry)) k (length (now (bytes .entry)))) × (now (bytes .exit) ≡ hexesOf (now (s .entry)) k (length (now (bytes .entry)))) ⌝ }
+{
+    let mut at = field_start(s, k);
+    let mut spelt = true;
+    let mut i: usize = 0;
+    while i < bytes.len() {
+        let hex = hex_from(s, at);
+        bytes[i] = hex_value(hex);
+        spelt = both_hold(spelt, is_hex(hex));
+        at = next_field(s, at);
+        i += 1;
+    }
+    spelt
+}
+
 // ---- answers
 
 fn put(out: &mut [u8], at: usize, b: u8) -> usize
@@ -300,7 +372,7 @@ fn digit_of(on: bool) -> u8
     if on { b'1' } else { b'0' }
 }
 
-// What the answers to W, R and K begin with: the letter, a tab, and 1 or 0.
+// What the answers to W, R, K, G and P begin with: the letter, a tab, and 1 or 0.
 fn put_head(out: &mut [u8], letter: u8, flag: bool) -> usize
     requires { ⌜ 3 ≤ length (now out) ⌝ }
     ensures { λ r. ⌜ Wrote (now (out .entry)) 0 (letter ∷ 9 ∷ digitOf flag ∷ []) r (now (out .exit)) ⌝ }
@@ -310,20 +382,20 @@ fn put_head(out: &mut [u8], letter: u8, flag: bool) -> usize
     put(out, b, digit_of(flag))
 }
 
-// The answer to W, at the start of a lent buffer: its length, or 0 where there is no room.
-pub fn write_ack(out: &mut [u8], ack: bool) -> usize
-    ensures { λ r. ⌜ (r ≡ wroteLength (ackText ack) (now (out .entry))) × (now (out .exit) ≡ wroteInto (ackText ack) (now (out .entry))) ⌝ }
+// The answer to W or P, at the start of a lent buffer: its length, or 0 where there is no room.
+pub fn write_ack(out: &mut [u8], letter: u8, ack: bool) -> usize
+    ensures { λ r. ⌜ (r ≡ wroteLength ROOM (ackText letter ack) (now (out .entry))) × (now (out .exit) ≡ wroteInto ROOM (ackText letter ack) (now (out .entry))) ⌝ }
 {
     if out.len() < ROOM {
         return 0;
     }
-    let a = put_head(out, b'W', ack);
+    let a = put_head(out, letter, ack);
     put(out, a, LINE_FEED)
 }
 
 // The answer to an acknowledged R.
 pub fn write_shown(out: &mut [u8], byte: u8) -> usize
-    ensures { λ r. ⌜ (r ≡ wroteLength (byteText byte) (now (out .entry))) × (now (out .exit) ≡ wroteInto (byteText byte) (now (out .entry))) ⌝ }
+    ensures { λ r. ⌜ (r ≡ wroteLength ROOM (byteText byte) (now (out .entry))) × (now (out .exit) ≡ wroteInto ROOM (byteText byte) (now (out .entry))) ⌝ }
 {
     if out.len() < ROOM {
         return 0;
@@ -333,18 +405,49 @@ pub fn write_shown(out: &mut [u8], byte: u8) -> usize
     put(out, b, LINE_FEED)
 }
 
-// The answer to an R that is not acknowledged.
-pub fn write_not_shown(out: &mut [u8]) -> usize
-    ensures { λ r. ⌜ (r ≡ wroteLength noByteText (now (out .entry))) × (now (out .exit) ≡ wroteInto noByteText (now (out .entry))) ⌝ }
+// The answer to an R or a G that is not acknowledged.
+pub fn write_not_shown(out: &mut [u8], letter: u8) -> usize
+    ensures { λ r. ⌜ (r ≡ wroteLength ROOM (noByteText letter) (now (out .entry))) × (now (out .exit) ≡ wroteInto ROOM (noByteText letter) (now (out .entry))) ⌝ }
 {
     if out.len() < ROOM {
         return 0;
     }
-    let a = put_head(out, b'R', false);
+    let a = put_head(out, letter, false);
     let b = put(out, a, TAB);
     let c = put(out, b, b'-');
     let d = put(out, c, b'-');
     put(out, d, LINE_FEED)
+}
+
+// The bytes of a block, a tab before each.
+fn put_bytes(out: &mut [u8], at: usize, bytes: &[u8]) -> usize
+    requires { ⌜ at + 3 * length (now bytes) ≤ length (now out) ⌝ }
+    ensures { λ r. ⌜ Wrote (now (out .entry)) at (bytesText (now (bytes .entry))) r (now (out .exit)) ⌝ }
+    ensures { λ r. ⌜ r ≡ at + 3 * length (now (bytes .entry)) ⌝ }
+{
+    let mut a = at;
+    let mut k: usize = 0;
+    while k < bytes.len() {
+        a = put_hex(out, a, bytes[k]);
+        k += 1;
+    }
+    a
+}
+
+// The answer to an acknowledged G, of a block of at most 32 bytes.
+pub fn write_block_shown(out: &mut [u8], bytes: &[u8]) -> usize
+    ensures { λ r. ⌜ (r ≡ wroteLength BLOCK-ROOM (blockText (now (bytes .entry))) (now (out .entry))) × (now (out .exit) ≡ wroteInto BLOCK-ROOM (blockText (now (bytes .entry))) (now (out .entry))) ⌝ }
+{
+    if out.len() < BLOCK_ROOM {
+        return 0;
+    }
+    if BLOCK_MOST < bytes.len() {
+        return 0;
+    }
+    let a = put_head(out, b'G', true);
+    let b = put_hex(out, a, bytes.len() as u8);
+    let c = put_bytes(out, b, bytes);
+    put(out, c, LINE_FEED)
 }
 
 // The answer to K.
@@ -357,7 +460,7 @@ pub fn write_tick(
     output2: u16,
     errors: u32,
 ) -> usize
-    ensures { λ r. ⌜ (r ≡ wroteLength (tickText alert duty1 duty2 output1 output2 errors) (now (out .entry))) × (now (out .exit) ≡ wroteInto (tickText alert duty1 duty2 output1 output2 errors) (now (out .entry))) ⌝ }
+    ensures { λ r. ⌜ (r ≡ wroteLength ROOM (tickText alert duty1 duty2 output1 output2 errors) (now (out .entry))) × (now (out .exit) ≡ wroteInto ROOM (tickText alert duty1 duty2 output1 output2 errors) (now (out .entry))) ⌝ }
 {
     if out.len() < ROOM {
         return 0;
@@ -373,7 +476,7 @@ pub fn write_tick(
 
 // What a refused line prints: E, the line's number, the refusal.
 pub fn write_refusal(out: &mut [u8], number: u64, refusal: u8) -> usize
-    ensures { λ r. ⌜ (r ≡ wroteLength (refusalText number refusal) (now (out .entry))) × (now (out .exit) ≡ wroteInto (refusalText number refusal) (now (out .entry))) ⌝ }
+    ensures { λ r. ⌜ (r ≡ wroteLength ROOM (refusalText number refusal) (now (out .entry))) × (now (out .exit) ≡ wroteInto ROOM (refusalText number refusal) (now (out .entry))) ⌝ }
 {
     if out.len() < ROOM {
         return 0;

@@ -5,27 +5,26 @@ use Prim.Native.Nat.{ℕ, _≤_}
 use Rattle.temperature.specs.declared.Reading.{Reading}
 use Rattle.temperature.specs.Order.{NoHotter}
 use Rattle.state.specs.declared.Chip.{Chip}
-use Rattle.event.specs.declared.Event.{Event}
 use Rattle.event.specs.declared.Event.the-variants.{Temperature}
 use Rattle.event.specs.declared.Answer.{Answer}
 use Rattle.event.specs.declared.Answer.the-variants.{Refused, Ticked}
 use Rattle.event.specs.declared.Tick.{Tick}
-use Rattle.event.specs.Event.{steppedChip}
+use Rattle.event.specs.Run.{Given, givenStep}
 
--- the same event, or a T event for the same zone that is hotter in the second; missing is hottest
-pub data Alike : Event → Event → Type 0 where
-  same : (e : Event) → Alike e e
-  hotter : (zone : ℕ) {r s : Reading} → NoHotter r s → Alike (Temperature zone r) (Temperature zone s)
+-- the same event with the same bytes beside it, or a T event for the same zone that is hotter in the second; missing is hottest
+pub data Alike : Given → Given → Type 0 where
+  same : (g : Given) → Alike g g
+  hotter : (zone : ℕ) (bytes : List ℕ) {r s : Reading} → NoHotter r s → Alike (record { event = Temperature zone r; bytes = bytes }) (record { event = Temperature zone s; bytes = bytes })
 
 -- alike place by place
-pub data AllAlike : List Event → List Event → Type 0 where
+pub data AllAlike : List Given → List Given → Type 0 where
   none : AllAlike [] []
-  more : {e f : Event} {es fs : List Event} → Alike e f → AllAlike es fs → AllAlike (e ∷ es) (f ∷ fs)
+  more : {g h : Given} {gs hs : List Given} → Alike g h → AllAlike gs hs → AllAlike (g ∷ gs) (h ∷ hs)
 
 -- none of the events is refused, from a chip on
-pub data NoneRefused : Chip → List Event → Type 0 where
+pub data NoneRefused : Chip → List Given → Type 0 where
   none : {c : Chip} → NoneRefused c []
-  more : {c : Chip} {e : Event} {es : List Event} → ((n : ℕ) → steppedChip c e .answer ≡ Refused n → ⊥) → NoneRefused (steppedChip c e .chip) es → NoneRefused c (e ∷ es)
+  more : {c : Chip} {g : Given} {gs : List Given} → ((n : ℕ) → givenStep c g .answer ≡ Refused n → ⊥) → NoneRefused (givenStep c g .chip) gs → NoneRefused c (g ∷ gs)
 
 -- the duties of a tick's answer, before the start-up kick, are at least as high in the second; other answers are not compared
 pub data NoHigher : Answer → Answer → Type 0 where

@@ -38,23 +38,31 @@ zones-set {zs} {ws} z i p = record {
 
 -- ---- chips
 
+-- c is no hotter than d, and has as many zones
+pub record Under (c d : Chip) : Type 0 where
+  pub many : length (c .zones) ≡ length (d .zones)
+  pub cooler : Cooler c d
+
 -- chips with the same of all else
-pub same-but : {s : Setup} {r : List ℕ} {zs ws : List Zone} {v f : List Gauge} {h : List Bool} {p : Pin} {d e : Drive} → ZonesCooler zs ws → DriveNoHigher d e → Cooler (record { setup = s; registers = r; zones = zs; volts = v; fans = f; hot = h; pin = p; drive = d }) (record { setup = s; registers = r; zones = ws; volts = v; fans = f; hot = h; pin = p; drive = e })
+pub same-but : {s : Setup} {r : List ℕ} {zs ws : List Zone} {v f : List Gauge} {h : List Bool} {p : Pin} {d e : Drive} → ZonesCooler zs ws → DriveNoHigher d e → Under (record { setup = s; registers = r; zones = zs; volts = v; fans = f; hot = h; pin = p; drive = d }) (record { setup = s; registers = r; zones = ws; volts = v; fans = f; hot = h; pin = p; drive = e })
 unfolding zoneAt
 same-but z n = record {
-  setup = refl;
-  registers = refl;
-  zones = z .each;
-  volts = refl;
-  fans = refl;
-  hot = refl;
-  pin = refl;
-  drive = n;
+  many = z .many;
+  cooler = record {
+    setup = refl;
+    registers = refl;
+    zones = z .each;
+    volts = refl;
+    fans = refl;
+    hot = refl;
+    pin = refl;
+    drive = n;
+  };
 }
 
 -- a chip is no hotter than itself
-pub cooler-self : (c : Chip) → Cooler c c
-cooler-self c =
+pub under-self : (c : Chip) → Under c c
+under-self c =
     same-but (zones-self _) (record { steps = λ i. omega arith; boosts = λ i t. t; ramps = refl; duties = λ i. omega arith })
 
 -- the chip c, but with other zones and another drive
@@ -62,5 +70,10 @@ abbrev pub beside : Chip → List Zone → Drive → Chip
 beside c zs x = withDrive (withZones c zs) x
 
 -- a chip that is no cooler than c is c, but with its own zones and drive
-pub is-beside : {c d : Chip} → Cooler c d → d ≡ beside c (d .zones) (d .drive)
+is-beside : {c d : Chip} → Cooler c d → d ≡ beside c (d .zones) (d .drive)
 is-beside k = rw (k .setup, k .registers, k .volts, k .fans, k .hot, k .pin)
+
+-- so what holds of every such chip beside c holds of one that c is under
+pub under-beside : {c d : Chip} (P : Chip → Type 0) → ((zs : List Zone) (x : Drive) → ZonesCooler (c .zones) zs → DriveNoHigher (c .drive) x → P (beside c zs x)) → Under c d → P d
+unfolding zoneAt
+under-beside P f u = rw (is-beside (u .cooler)) (f _ _ (record { many = u .many; each = u .cooler .zones }) (u .cooler .drive))

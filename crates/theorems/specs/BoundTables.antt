@@ -28,8 +28,7 @@ use Rattle.drive.specs.Tables.{askedDuty}
 use Rattle.drive.specs.Duties.{boundLargest, tablesAsk, fanDuty}
 use Rattle.drive.specs.Tick.{followed, askAfter, asksAfter, dutyAfter, dutyOf}
 use Rattle.drive.specs.Range.{duty-of-le}
-use Rattle.event.specs.declared.Event.{Event}
-use Rattle.event.specs.Run.{chipAfter}
+use Rattle.event.specs.Run.{Given, chipAfter}
 use Rattle.event.specs.Reached.{run-setup, reached-in-range}
 
 -- the largest of the bound values is at least each of them
@@ -68,11 +67,11 @@ marks-follow c table =
     cc (missed-keeps c .zones, missed-marks c .other TEMPERATURE-SOURCE-SELECT (λ s. omega arith), missed-marks c .other FAN-CONTROL-BINDINGS (λ s. omega arith))
 
 -- from power-on, a fan whose bound table follows a missing reading has a duty of 256 after a tick
-pub missing-duty : (s : Setup) → Valid s → (es : List Event) (fan table : ℕ) → table < 4 → T (isSet (getD (s .bindings) fan 0) (2 ^ table)) → getD (s .overrides) fan noOverride .duty ≡ Off → followed (chipAfter (powerOn s) es) table ≡ Missing → dutyOf (missed (chipAfter (powerOn s) es)) fan ≡ 256
+pub missing-duty : (s : Setup) → Valid s → (gs : List Given) (fan table : ℕ) → table < 4 → T (isSet (getD (s .bindings) fan 0) (2 ^ table)) → getD (s .overrides) fan noOverride .duty ≡ Off → followed (chipAfter (powerOn s) gs) table ≡ Missing → dutyOf (missed (chipAfter (powerOn s) gs)) fan ≡ 256
 unfolding powerOn
-missing-duty s v es fan table l bound off m =
-    let c = missed (chipAfter (powerOn s) es) in
-    let same : c .setup ≡ s = missed-keeps _ .setup ∙ run-setup (powerOn s) es in
+missing-duty s v gs fan table l bound off m =
+    let c = missed (chipAfter (powerOn s) gs) in
+    let same : c .setup ≡ s = missed-keeps _ .setup ∙ run-setup (powerOn s) gs in
     let least : 256 ≤ dutyOf c fan = missing-le-duty c fan table l (rw same bound) (rw same off) (marks-follow _ table ∙ m) in
-    let most : dutyOf c fan ≤ 256 = duty-of-le c (rw (missed-keeps (chipAfter (powerOn s) es) .drive) (reached-in-range s es v .levels)) (rw same v) fan in
+    let most : dutyOf c fan ≤ 256 = duty-of-le c (rw (missed-keeps (chipAfter (powerOn s) gs) .drive) (reached-in-range s gs v .levels)) (rw same v) fan in
     omega arith

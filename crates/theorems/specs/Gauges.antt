@@ -1,7 +1,7 @@
 -- What events leave of the voltages and fan counts: a reading that is missing stays so until its own event gives one. Assumes nothing.
 use mathlib.Core.Path.{_≡_, refl, ap, _∙_}
 use mathlib.Core.Bool.{true}
-use mathlib.Core.List.{List}
+use mathlib.Core.List.{List, [], _∷_}
 use Prim.Native.Nat.{ℕ, zero, suc, _-_}
 use native.Mathlib.Omega.{arith}
 use lib.Dec.{ltb}
@@ -19,12 +19,14 @@ use Rattle.sense.specs.Missing.{missed}
 use Rattle.sense.specs.Events.{feedsThree, feedsFour, fedZone, tookVoltage, tookFan}
 use Rattle.sense.specs.Keeps.{temperature-keeps, voltage-keeps, fan-keeps, hot-keeps, pin-keeps, reset-keeps, missed-keeps}
 use Rattle.laws.specs.Never.{never}
-use Rattle.bus.specs.Transactions.{write-keeps, read-keeps}
+use Rattle.bus.specs.Transactions.{write-keeps, read-keeps, read-block-keeps, write-block, after, afterAll, all-kept}
 use Rattle.drive.specs.TickOrder.{tick-keeps}
 use Rattle.event.specs.declared.Event.{Event}
-use Rattle.event.specs.declared.Event.the-variants.{Temperature, Voltage, Fan, Hot, Pin, Tick, Reset, Write, Read}
-use Rattle.event.specs.Event.{indexIn, eventIn, quietStep, tickAnswer, writtenAnswer, readAnswer, takenStep, steppedChip}
-use Rattle.theorems.specs.Taken.{step-left}
+use Rattle.event.specs.declared.Event.the-variants.{Temperature, Voltage, Fan, Hot, Pin, Tick, Reset, Write, Read, ReadBlock, WriteBlock}
+use Rattle.event.specs.Event.{indexIn, eventIn, quietStep, tickAnswer, writtenAnswer, readAnswer, seenBlockAnswer, writtenBlockAnswer, takenStep}
+use Rattle.event.specs.Run.{Given, givenStep}
+use Rattle.event.specs.Refusal.{taken-in, step-cases}
+use Rattle.theorems.specs.Taken.{IsTaken}
 
 -- ---- events that give no voltage and no fan count
 
@@ -37,25 +39,29 @@ pub record SameGauges (c d : Chip) : Type 0 where
 pub data Gives : Event → Type 0 where
   volt : (channel : ℕ) (n : Count) → Gives (Voltage channel n)
   fan : (number : ℕ) (n : Count) → Gives (Fan number n)
-  neither : {e : Event} → ((c : Chip) → SameGauges c (takenStep c e .chip)) → Gives e
+  neither : {e : Event} → ((c : Chip) (bytes : List ℕ) → SameGauges c (takenStep c e bytes .chip)) → Gives e
 
--- T, H, A, K, X, W and R leave them
+-- T, H, A, K, X, W, R, G and P leave them
 pub gives : (e : Event) → Gives e
-unfolding takenStep quietStep tickAnswer writtenAnswer readAnswer
+unfolding takenStep quietStep tickAnswer writtenAnswer readAnswer seenBlockAnswer writtenBlockAnswer after afterAll
 gives (Temperature zone r) =
-    neither (λ c. let k = temperature-keeps c (zone - 1) r in record { volts = k .volts; fans = k .fans })
+    neither (λ c bytes. let k = temperature-keeps c (zone - 1) r in record { volts = k .volts; fans = k .fans })
 gives (Voltage channel n) = volt channel n
 gives (Fan number n) = fan number n
-gives (Hot input level) = neither (λ c. let k = hot-keeps c (input - 1) _ in record { volts = k .volts; fans = k .fans })
-gives (Pin level) = neither (λ c. let k = pin-keeps c _ in record { volts = k .volts; fans = k .fans })
+gives (Hot input level) = neither (λ c bytes. let k = hot-keeps c (input - 1) _ in record { volts = k .volts; fans = k .fans })
+gives (Pin level) = neither (λ c bytes. let k = pin-keeps c _ in record { volts = k .volts; fans = k .fans })
 gives Tick =
-    neither (λ c. let k = tick-keeps (missed c) in
+    neither (λ c bytes. let k = tick-keeps (missed c) in
     record { volts = k .volts ∙ missed-keeps c .volts; fans = k .fans ∙ missed-keeps c .fans })
-gives Reset = neither (λ c. record { volts = reset-keeps c .volts; fans = reset-keeps c .fans })
+gives Reset = neither (λ c bytes. record { volts = reset-keeps c .volts; fans = reset-keeps c .fans })
 gives (Write address a byte) =
-    neither (λ c. let k = write-keeps c address a byte in record { volts = k .volts; fans = k .fans })
+    neither (λ c bytes. let k = write-keeps c address a byte in record { volts = k .volts; fans = k .fans })
 gives (Read address a) =
-    neither (λ c. let k = read-keeps c address a .kept in record { volts = k .volts; fans = k .fans })
+    neither (λ c bytes. let k = read-keeps c address a .kept in record { volts = k .volts; fans = k .fans })
+gives (ReadBlock address command) =
+    neither (λ c bytes. let k = read-block-keeps c address command .kept in record { volts = k .volts; fans = k .fans })
+gives (WriteBlock address command) =
+    neither (λ c bytes. let k = all-kept c (write-block address command bytes ∷ []) in record { volts = k .volts; fans = k .fans })
 
 -- ---- V and F
 
@@ -89,24 +95,26 @@ module _ (c : Chip) (i : ℕ) where
   unfolding tookFan withFan fanAt
   fan-missing j n m own = pick-each (λ (d : Chip). fanAt d i ≡ Missing) (ltb j 4) (stays (c .fans) i j n m own) m
 
-  volt-left : {e : Event} → Gives e → ((n : ℕ) → e ≡ Voltage (suc i) (Taken n) → ⊥) → eventIn e ≡ true → voltAt c i ≡ Missing → voltAt (takenStep c e .chip) i ≡ Missing
+  volt-left : {e : Event} (bytes : List ℕ) → Gives e → ((n : ℕ) → e ≡ Voltage (suc i) (Taken n) → ⊥) → eventIn e ≡ true → voltAt c i ≡ Missing → voltAt (takenStep c e bytes .chip) i ≡ Missing
   unfolding eventIn indexIn takenStep quietStep voltAt
-  volt-left (volt zero n) h r m = absurd (never (cc))
-  volt-left (volt (suc k) n) h r m = voltage-missing (suc k - 1) n m (unless-taken Voltage i k n h)
-  volt-left (fan number n) h r m = rw (fan-keeps c (number - 1) n .volts) m
-  volt-left (neither f) h r m = rw (f c .volts, voltAt) m
+  volt-left bytes (volt zero n) h r m = absurd (never (cc))
+  volt-left bytes (volt (suc k) n) h r m = voltage-missing (suc k - 1) n m (unless-taken Voltage i k n h)
+  volt-left bytes (fan number n) h r m = rw (fan-keeps c (number - 1) n .volts) m
+  volt-left bytes (neither f) h r m = rw (f c bytes .volts, voltAt) m
 
-  fan-left : {e : Event} → Gives e → ((n : ℕ) → e ≡ Fan (suc i) (Taken n) → ⊥) → eventIn e ≡ true → fanAt c i ≡ Missing → fanAt (takenStep c e .chip) i ≡ Missing
+  fan-left : {e : Event} (bytes : List ℕ) → Gives e → ((n : ℕ) → e ≡ Fan (suc i) (Taken n) → ⊥) → eventIn e ≡ true → fanAt c i ≡ Missing → fanAt (takenStep c e bytes .chip) i ≡ Missing
   unfolding eventIn indexIn takenStep quietStep fanAt
-  fan-left (volt channel n) h r m = rw (voltage-keeps c (channel - 1) n .fans) m
-  fan-left (fan zero n) h r m = absurd (never (cc))
-  fan-left (fan (suc k) n) h r m = fan-missing (suc k - 1) n m (unless-taken Fan i k n h)
-  fan-left (neither f) h r m = rw (f c .fans, fanAt) m
+  fan-left bytes (volt channel n) h r m = rw (voltage-keeps c (channel - 1) n .fans) m
+  fan-left bytes (fan zero n) h r m = absurd (never (cc))
+  fan-left bytes (fan (suc k) n) h r m = fan-missing (suc k - 1) n m (unless-taken Fan i k n h)
+  fan-left bytes (neither f) h r m = rw (f c bytes .fans, fanAt) m
 
   -- a missing voltage stays missing under an event that does not give it a taken reading
-  pub volt-stays : {e : Event} → Gives e → (eventIn e ≡ true → (n : ℕ) → e ≡ Voltage (suc i) (Taken n) → ⊥) → voltAt c i ≡ Missing → voltAt (steppedChip c e .chip) i ≡ Missing
-  volt-stays {e} g h m = step-left (λ (d : Chip). voltAt d i ≡ Missing) c e (λ r. volt-left g (h r) r m) m
+  pub volt-stays : (g : Given) → (IsTaken g → (n : ℕ) → g .event ≡ Voltage (suc i) (Taken n) → ⊥) → voltAt c i ≡ Missing → voltAt (givenStep c g .chip) i ≡ Missing
+  volt-stays g h m =
+      step-cases c (g .event) (g .bytes) (λ (d : Chip). voltAt d i ≡ Missing) m (λ t. volt-left (g .bytes) (gives (g .event)) (h t) (taken-in (g .event) (g .bytes) t) m)
 
   -- a missing fan count stays missing under an event that does not give it a taken reading
-  pub fan-stays : {e : Event} → Gives e → (eventIn e ≡ true → (n : ℕ) → e ≡ Fan (suc i) (Taken n) → ⊥) → fanAt c i ≡ Missing → fanAt (steppedChip c e .chip) i ≡ Missing
-  fan-stays {e} g h m = step-left (λ (d : Chip). fanAt d i ≡ Missing) c e (λ r. fan-left g (h r) r m) m
+  pub fan-stays : (g : Given) → (IsTaken g → (n : ℕ) → g .event ≡ Fan (suc i) (Taken n) → ⊥) → fanAt c i ≡ Missing → fanAt (givenStep c g .chip) i ≡ Missing
+  fan-stays g h m =
+      step-cases c (g .event) (g .bytes) (λ (d : Chip). fanAt d i ≡ Missing) m (λ t. fan-left (g .bytes) (gives (g .event)) (h t) (taken-in (g .event) (g .bytes) t) m)

@@ -7,9 +7,12 @@ pub mod Taken
 pub mod Gauges
 pub mod ShownBytes
 pub mod Sensors
+pub mod ShownBlocks
 pub mod Unread
 pub mod Healthy
 pub mod Zones
+pub mod BlockPlaces
+pub mod ZoneWrites
 pub mod BoundTables
 pub mod ZoneReadings
 pub mod FollowedZones

@@ -10,26 +10,25 @@ use Rattle.state.specs.declared.Chip.{Chip}
 use Rattle.state.specs.Parts.{registerAt}
 use Rattle.bus.specs.Read.{shownRegister}
 use Rattle.bus.specs.Locked.{lock-marked}
-use Rattle.event.specs.declared.Event.{Event}
 use Rattle.event.specs.declared.Event.the-variants.{Reset}
-use Rattle.event.specs.Run.{chipAfter}
+use Rattle.event.specs.Run.{Given, chipAfter}
 use Rattle.theorems.specs.LockMarks.{marked-shown}
 use Rattle.theorems.specs.LockKeeps.{step-same}
 
 -- no event of the list is an X
-pub data NoReset : List Event → Type 0 where
+pub data NoReset : List Given → Type 0 where
   none : NoReset []
-  more : {e : Event} {es : List Event} → (e ≡ Reset → ⊥) → NoReset es → NoReset (e ∷ es)
+  more : {g : Given} {gs : List Given} → (g .event ≡ Reset → ⊥) → NoReset gs → NoReset (g ∷ gs)
 
 -- the file keeps its lock-marked registers
-file-holds : {es : List Event} → NoReset es → (c : Chip) → T (isSet (registerAt c CONFIGURATION) LOCK) → (a : ℕ) → T (lockMarked a) → registerAt (chipAfter c es) a ≡ registerAt c a
+file-holds : {gs : List Given} → NoReset gs → (c : Chip) → T (isSet (registerAt c CONFIGURATION) LOCK) → (a : ℕ) → T (lockMarked a) → registerAt (chipAfter c gs) a ≡ registerAt c a
 unfolding chipAfter
 file-holds none c locked a m = refl
-file-holds (more {e} n u) c locked a m =
-    let same = step-same c locked e n in
+file-holds (more {g} n u) c locked a m =
+    let same = step-same c locked g n in
     file-holds u _ (rw (same .marked CONFIGURATION lock-marked) locked) a m ∙ same .marked a m
 
 -- From a chip with LOCK set, through any events without X, every lock-marked register shows what it showed. E3h, with LOCK and GMSK, is one of
 -- them (`lock-marked`).
-pub lock-holds : (c : Chip) → T (isSet (registerAt c CONFIGURATION) LOCK) → (es : List Event) → NoReset es → (a : ℕ) → T (lockMarked a) → shownRegister (chipAfter c es) a ≡ shownRegister c a
-lock-holds c locked es u a m = marked-shown (chipAfter c es) a m ∙ file-holds u c locked a m ∙ sym (marked-shown c a m)
+pub lock-holds : (c : Chip) → T (isSet (registerAt c CONFIGURATION) LOCK) → (gs : List Given) → NoReset gs → (a : ℕ) → T (lockMarked a) → shownRegister (chipAfter c gs) a ≡ shownRegister c a
+lock-holds c locked gs u a m = marked-shown (chipAfter c gs) a m ∙ file-holds u c locked a m ∙ sym (marked-shown c a m)

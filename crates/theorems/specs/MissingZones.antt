@@ -1,7 +1,6 @@
 -- A zone that is missing: what it shows, what it asks of the fans, and until when it is missing. Zones count from 0 in the order 1a, 1b, 2a,
 -- 2b, 3, 4, tables and fans from 0. Assumes nothing.
 use mathlib.Core.Path.{_≡_, refl}
-use mathlib.Core.Bool.{true}
 use mathlib.Core.List.{List, [], _∷_}
 use Prim.Native.Nat.{ℕ, zero, suc, _^_, _<_}
 use native.Mathlib.Omega.{arith}
@@ -22,13 +21,13 @@ use Rattle.state.specs.Powered.{poweredOn, powered-valid}
 use Rattle.sense.specs.Missing.{missed}
 use Rattle.bus.specs.Read.{halfByte, shownKind, shownHome, shownRegister}
 use Rattle.drive.specs.Tick.{followed, dutyOf}
-use Rattle.event.specs.declared.Event.{Event}
 use Rattle.event.specs.declared.Event.the-variants.{Tick}
 use Rattle.event.specs.declared.Answer.the-variants.{Ticked}
 use Rattle.event.specs.declared.Tick.{Tick as Shown}
-use Rattle.event.specs.Event.{eventIn, steppedChip}
-use Rattle.event.specs.Run.{chipAfter}
+use Rattle.event.specs.Event.{steppedChip}
+use Rattle.event.specs.Run.{Given, givenStep, chipAfter}
 use Rattle.event.specs.Ticking.{tickShown, tick-answers}
+use Rattle.theorems.specs.Taken.{IsTaken}
 use Rattle.theorems.specs.Zones.{zoneOf, ZoneMissing, GivesZone}
 use Rattle.theorems.specs.FollowedZones.{followed-tells}
 use Rattle.theorems.specs.BoundTables.{missing-duty}
@@ -67,8 +66,8 @@ followed-missing c table = followed-tells c table .only
 
 -- a K given to the chip answers a duty of 256 for the first fan, or for the second
 pub data FullDuty (c : Chip) : ℕ → Type 0 where
-  first : {t : Shown} → steppedChip c Tick .answer ≡ Ticked t → t .duty1 ≡ 256 → FullDuty c 0
-  second : {t : Shown} → steppedChip c Tick .answer ≡ Ticked t → t .duty2 ≡ 256 → FullDuty c 1
+  first : {t : Shown} → steppedChip c Tick [] .answer ≡ Ticked t → t .duty1 ≡ 256 → FullDuty c 0
+  second : {t : Shown} → steppedChip c Tick [] .answer ≡ Ticked t → t .duty2 ≡ 256 → FullDuty c 1
 
 -- K answers the two fans' duties
 full-duty : (c : Chip) (fan : ℕ) → fan < 2 → dutyOf (missed c) fan ≡ 256 → FullDuty c fan
@@ -79,27 +78,28 @@ full-duty c (suc (suc fan)) l e = absurd (omega arith)
 
 -- At each tick at which the reading that a bound table follows is missing, the fan's duty is 256, unless an override stands. The events are
 -- any that can come before a tick, and the setup is any that is taken.
-pub missing-full : (s : Setup) → poweredOn s .refusal ≡ 0 → (es : List Event) (fan table : ℕ) → fan < 2 → table < 4
+pub missing-full : (s : Setup) → poweredOn s .refusal ≡ 0 → (gs : List Given) (fan table : ℕ) → fan < 2 → table < 4
     → T (isSet (getD (s .bindings) fan 0) (2 ^ table))
     → getD (s .overrides) fan noOverride .duty ≡ Off
-    → followed (chipAfter (powerOn s) es) table ≡ Missing
-    → FullDuty (chipAfter (powerOn s) es) fan
-missing-full s v es fan table f t bound off m =
-    full-duty (chipAfter (powerOn s) es) fan f (missing-duty s (powered-valid s v) es fan table t bound off m)
+    → followed (chipAfter (powerOn s) gs) table ≡ Missing
+    → FullDuty (chipAfter (powerOn s) gs) fan
+missing-full s v gs fan table f t bound off m =
+    full-duty (chipAfter (powerOn s) gs) fan f (missing-duty s (powered-valid s v) gs fan table t bound off m)
 
 -- ---- until when it is missing
 
 -- none of the events gives zone z a reading, from a chip on; one that is refused may say anything
-pub data NeverGiven (z : ℕ) : Chip → List Event → Type 0 where
+pub data NeverGiven (z : ℕ) : Chip → List Given → Type 0 where
   none : {c : Chip} → NeverGiven z c []
-  more : {c : Chip} {e : Event} {es : List Event} → (eventIn e ≡ true → GivesZone c z e → ⊥) → NeverGiven z (steppedChip c e .chip) es → NeverGiven z c (e ∷ es)
+  more : {c : Chip} {g : Given} {gs : List Given} → (IsTaken g → GivesZone c z (g .event) (g .bytes) → ⊥) → NeverGiven z (givenStep c g .chip) gs → NeverGiven z c (g ∷ gs)
 
 -- a missing zone stays so
-stays-missing : {z : ℕ} {c : Chip} {es : List Event} → NeverGiven z c es → zoneAt c z ≡ Missing → zoneAt (chipAfter c es) z ≡ Missing
+stays-missing : {z : ℕ} {c : Chip} {gs : List Given} → NeverGiven z c gs → zoneAt c z ≡ Missing → zoneAt (chipAfter c gs) z ≡ Missing
 unfolding chipAfter
 stays-missing none m = m
-stays-missing {z} {c} (more {e = e} n u) m = stays-missing u (step-lost c z m e n)
+stays-missing {z} {c} (more {g = g} n u) m = stays-missing u (step-lost c z m g n)
 
--- From power-on a zone is missing until a T that is heard, a V above 0 that feeds it, or a whole-byte write other than 80h that takes effect.
-pub missing-until : (s : Setup) (z : ℕ) (es : List Event) → NeverGiven z (powerOn s) es → zoneAt (chipAfter (powerOn s) es) z ≡ Missing
-missing-until s z es u = stays-missing u (power-lost s z)
+-- From power-on a zone is missing until a T that is heard, a V above 0 that feeds it, a whole-byte write other than 80h that takes effect, or a
+-- block write one of whose bytes is such a write.
+pub missing-until : (s : Setup) (z : ℕ) (gs : List Given) → NeverGiven z (powerOn s) gs → zoneAt (chipAfter (powerOn s) gs) z ≡ Missing
+missing-until s z gs u = stays-missing u (power-lost s z)

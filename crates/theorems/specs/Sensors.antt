@@ -1,19 +1,22 @@
 -- The sensors that have limits, voltages and fans: when one is watched, and how a broken one looks at a tick. Assumes nothing.
 use mathlib.Core.Path.{_≡_}
 use mathlib.Core.Bool.{Bool, true}
-use Prim.Native.Nat.{ℕ, suc, _+_, _/_, _%_, _^_, _≤_, _<_}
+use mathlib.Core.List.{[]}
+use Prim.Native.Nat.{ℕ, suc, _+_, _-_, _/_, _%_, _^_, _≤_, _<_}
 use lib.Dec.{T}
+use lib.ListN.{getD}
 use Rattle.map.specs.Bits.{isSet}
-use Rattle.map.specs.Names.{B-ERROR-STATUS-2, B-FAN-ERROR-STATUS, H-ERROR-STATUS-2, H-FAN-ERROR-STATUS, CONFIGURATION, GMSK}
+use Rattle.map.specs.Names.{B-ERROR-STATUS-2, B-FAN-ERROR-STATUS, H-ERROR-STATUS-2, H-FAN-ERROR-STATUS, CONFIGURATION, GMSK, FIXED-BLOCK-0, FIXED-BLOCK-1}
 use Rattle.state.specs.declared.Chip.{Chip}
 use Rattle.state.specs.declared.Count.the-variants.{Taken}
 use Rattle.state.specs.Parts.{registerAt}
 use Rattle.sense.specs.Errors.{lowLimit, highLimit, fanLimitAt}
 use Rattle.sense.specs.Missing.{voltWatched, fanWatched}
 use Rattle.bus.specs.Read.{shownRegister}
+use Rattle.bus.specs.Block.{blockBytes}
 use Rattle.event.specs.declared.Event.{Event}
-use Rattle.event.specs.declared.Event.the-variants.{Voltage, Fan, Tick}
-use Rattle.event.specs.declared.Answer.the-variants.{Ticked}
+use Rattle.event.specs.declared.Event.the-variants.{Voltage, Fan, Tick, ReadBlock}
+use Rattle.event.specs.declared.Answer.the-variants.{Ticked, Block}
 use Rattle.event.specs.declared.Tick.{Tick as Shown}
 use Rattle.event.specs.Event.{steppedChip}
 
@@ -47,12 +50,26 @@ unfoldable pub errorBit : Sensor → ℕ
 errorBit (volt i l) = 2 ^ (i % 8)
 errorBit (fan i l) = 2 ^ i
 
--- a K given to the chip: what it answers tells of an error, with ALERT unless GMSK is set, and after it reads of both groups show the
--- sensor's bit
+-- register a is one of the block, and its byte of the block, byte a - first, has the bit
+pub record InBlock (c : Chip) (first count a bit : ℕ) : Type 0 where
+  pub from : first ≤ a
+  pub below : a < first + count
+  pub shows : T (isSet (getD (blockBytes c first count) (a - first) 0) bit)
+
+-- each G of the command that is given to the chip and acknowledged shows the bit of register a
+abbrev pub BlocksShow : Chip → ℕ → ℕ → ℕ → Type 0
+BlocksShow c command a bit =
+    (address first count : ℕ) → steppedChip c (ReadBlock address command) [] .answer ≡ Block first count → InBlock (steppedChip c (ReadBlock address command) [] .chip) first count a bit
+
+-- a K given to the chip: what it answers tells of an error, with ALERT unless GMSK is set, and after it byte reads of both groups show the
+-- sensor's bit, and so do block reads of F2h, the BMC group, and of F3h, the Host group. All of them have no bytes beside them; up to 32 would
+-- make no difference (`step-alone`)
 pub record LooksBroken (x : Sensor) (c : Chip) : Type 0 where
   pub tick : Shown
-  pub answers : steppedChip c Tick .answer ≡ Ticked tick
-  pub in-bmc : T (isSet (shownRegister (steppedChip c Tick .chip) (bmcRegister x)) (errorBit x))
-  pub in-host : T (isSet (shownRegister (steppedChip c Tick .chip) (hostRegister x)) (errorBit x))
-  pub alert : (T (isSet (registerAt (steppedChip c Tick .chip) CONFIGURATION) GMSK) → ⊥) → tick .alert ≡ true
+  pub answers : steppedChip c Tick [] .answer ≡ Ticked tick
+  pub in-bmc : T (isSet (shownRegister (steppedChip c Tick [] .chip) (bmcRegister x)) (errorBit x))
+  pub in-host : T (isSet (shownRegister (steppedChip c Tick [] .chip) (hostRegister x)) (errorBit x))
+  pub block-bmc : BlocksShow (steppedChip c Tick [] .chip) FIXED-BLOCK-0 (bmcRegister x) (errorBit x)
+  pub block-host : BlocksShow (steppedChip c Tick [] .chip) FIXED-BLOCK-1 (hostRegister x) (errorBit x)
+  pub alert : (T (isSet (registerAt (steppedChip c Tick [] .chip) CONFIGURATION) GMSK) → ⊥) → tick .alert ≡ true
   pub errors : 1 ≤ tick .errors

@@ -1,42 +1,43 @@
 -- Alike events, none refused, leave a chip that is no hotter than another no hotter, and answer no higher duties. Assumes nothing.
-use mathlib.Core.Path.{_≡_, refl}
-use mathlib.Core.Bool.{Bool, true, false}
-use mathlib.Core.List.{List}
+use mathlib.Core.Path.{_≡_}
+use mathlib.Core.Bool.{Bool}
+use mathlib.Core.List.{List, []}
 use Prim.Native.Nat.{ℕ, _-_}
-use lib.ListN.{length}
-use Rattle.laws.specs.Pick.{pick}
+use lib.Dec.{eqb}
 use Rattle.laws.specs.Pointwise.{pick-related}
-use Rattle.temperature.specs.declared.Reading.{Reading}
-use Rattle.temperature.specs.Order.{NoHotter, no-hotter-refl}
+use Rattle.map.specs.declared.Block.{Block}
+use Rattle.map.specs.declared.Block.the-variants.{Unlisted, Fixed}
+use Rattle.temperature.specs.Order.{no-hotter-refl}
 use Rattle.state.specs.declared.Chip.{Chip}
 use Rattle.state.specs.declared.Drive.{Drive}
 use Rattle.state.specs.declared.Zone.{Zone}
-use Rattle.state.specs.Parts.{zoneAt}
 use Rattle.state.specs.Valid.{Valid}
-use Rattle.state.specs.Order.{Cooler, DriveNoHigher}
+use Rattle.state.specs.Order.{DriveNoHigher}
 use Rattle.sense.specs.Missing.{missed}
 use Rattle.bus.specs.Read.{Shown as Byte, NoByte as NoneShown, Byte as ByteShown}
 use Rattle.laws.specs.Never.{never}
 use Rattle.drive.specs.TickOrder.{duty-rises, tick-cooler}
 use Rattle.event.specs.declared.Event.{Event}
-use Rattle.event.specs.declared.Event.the-variants.{Temperature, Voltage, Fan, Hot, Pin, Tick, Reset, Write, Read}
-use Rattle.event.specs.declared.Answer.the-variants.{Nothing, Refused, Acknowledged, Ticked}
+use Rattle.event.specs.declared.Event.the-variants.{Temperature, Voltage, Fan, Hot, Pin, Tick, Reset, Write, Read, ReadBlock, WriteBlock}
+use Rattle.event.specs.declared.Answer.the-variants.{Nothing, Refused, Acknowledged, Ticked, BlockWritten}
 use Rattle.event.specs.declared.Tick.{Tick as Shown}
 use Rattle.event.specs.declared.Stepped.{Stepped}
-use Rattle.event.specs.Event.{eventIn, quietStep, refusedStep, writtenAnswer, seenAnswer, readAnswer, takenStep, steppedChip}
+use Rattle.event.specs.Event.{eventIn, refusalOf, quietStep, refusedStep, writtenAnswer, seenAnswer, readAnswer, blockAnswer, seenBlockAnswer, writtenBlockAnswer, takenStep, steppedChip}
+use Rattle.event.specs.Run.{Given, givenStep}
+use Rattle.event.specs.Refusal.{step-taken, taken-number}
 use Rattle.event.specs.SameShape.{missed-shape}
-use Rattle.event.specs.Ticking.{tick-chip, tickShown, tick-answers}
+use Rattle.event.specs.Ticking.{tick-chip, tick-leaves, tickShown, tick-answers}
 use Rattle.theorems.specs.Alike.{Alike, same, hotter, NoHigher, ticks, others}
-use Rattle.theorems.specs.Beside.{ZonesCooler, beside, is-beside}
-use Rattle.theorems.specs.Events.{itself, temperature-cooler, voltage-cooler, fan-cooler, hot-cooler, pin-cooler, reset-cooler, missed-cooler, write-cooler, read-cooler}
+use Rattle.theorems.specs.Beside.{ZonesCooler, Under, beside, under-beside}
+use Rattle.theorems.specs.Events.{itself, temperature-under, voltage-under, fan-under, hot-under, pin-under, reset-under, missed-under, write-under, read-under, read-block-under, write-block-under}
 
 -- the event is not refused
-abbrev pub NotRefused : Chip → Event → Type 0
-NotRefused c e = (n : ℕ) → steppedChip c e .answer ≡ Refused n → ⊥
+abbrev pub NotRefused : Chip → Given → Type 0
+NotRefused c g = (n : ℕ) → givenStep c g .answer ≡ Refused n → ⊥
 
 -- of two steps, the first leaves a chip no hotter and answers no higher duties
 pub record Rises (s t : Stepped) : Type 0 where
-  pub chips : Cooler (s .chip) (t .chip)
+  pub chips : Under (s .chip) (t .chip)
   pub answers : NoHigher (s .answer) (t .answer)
 
 -- ---- answers that are no tick's
@@ -55,24 +56,27 @@ unfolding seenAnswer
 seen NoneShown t e = never (cc)
 seen (ByteShown b) t e = never (cc)
 
+block : (b : Block) (t : Shown) → blockAnswer b ≡ Ticked t → ⊥
+unfolding blockAnswer
+block Unlisted t e = never (cc)
+block (Fixed first count) t e = never (cc)
+
+block-written : (ack : Bool) (t : Shown) → BlockWritten ack ≡ Ticked t → ⊥
+block-written ack t e = never (cc)
+
 -- a taken event that answers nothing
-quiet-rises : {c d : Chip} → Cooler c d → Rises (quietStep c) (quietStep d)
+quiet-rises : {c d : Chip} → Under c d → Rises (quietStep c) (quietStep d)
 unfolding quietStep
 quiet-rises k = record { chips = k; answers = others nothing nothing }
 
 -- a refused event
-refused-rises : {c d : Chip} → Cooler c d → Rises (refusedStep c) (refusedStep d)
+refused-rises : (refusal : ℕ) {c d : Chip} → Under c d → Rises (refusedStep c refusal) (refusedStep d refusal)
 unfolding refusedStep
-refused-rises k = record { chips = k; answers = others (refused 2) (refused 2) }
+refused-rises refusal k = record { chips = k; answers = others (refused refusal) (refused refusal) }
 
 -- an event that is not refused is taken
-not-refused-taken : (c : Chip) (e : Event) → NotRefused c e → steppedChip c e ≡ takenStep c e
-unfolding steppedChip refusedStep
-not-refused-taken c e = go (eventIn e)
-  where
-    go : (t : Bool) → ((n : ℕ) → pick t (takenStep c e) (refusedStep c) .answer ≡ Refused n → ⊥) → pick t (takenStep c e) (refusedStep c) ≡ takenStep c e
-    go true f = refl
-    go false f = absurd (f 2 refl)
+not-refused-taken : (c : Chip) (g : Given) → NotRefused c g → givenStep c g ≡ takenStep c (g .event) (g .bytes)
+not-refused-taken c g f = step-taken c (g .event) (g .bytes) (taken-number c (g .event) (g .bytes) f)
 
 -- ---- the same event
 
@@ -81,50 +85,52 @@ module _ (c : Chip) {zs : List Zone} {x : Drive} (v : Valid (c .setup)) (z : Zon
   d = beside c zs x
 
   -- K: the missing marks are the same, and the tick goes by order
-  tick-rises : Rises (takenStep c Tick) (takenStep d Tick)
-  unfolding steppedChip eventIn tickShown
+  tick-rises : Rises (steppedChip c Tick []) (steppedChip d Tick [])
+  unfolding tickShown
   tick-rises = record {
-    chips = rw (tick-chip c, tick-chip d) (tick-cooler valid k);
-    answers = rw (tick-answers c, tick-answers d) (ticks (duty-rises valid k 0) (duty-rises valid k 1));
+    chips = record {
+      many = rw (tick-leaves c .zones, tick-leaves d .zones) (u .many);
+      cooler = rw (tick-chip c, tick-chip d) (tick-cooler valid (u .cooler));
+    };
+    answers = rw (tick-answers c, tick-answers d) (ticks (duty-rises valid (u .cooler) 0) (duty-rises valid (u .cooler) 1));
   }
     where
-      k : Cooler (missed c) (missed d)
-      k = missed-cooler c z n
+      u : Under (missed c) (missed d)
+      u = missed-under c z n
 
       valid : Valid (missed c .setup)
       valid = rw (missed-shape c .setup) v
 
   -- each event, taken by both
-  taken-rises : (e : Event) → Rises (takenStep c e) (takenStep d e)
-  unfolding takenStep writtenAnswer readAnswer
-  taken-rises (Temperature zone r) = quiet-rises (temperature-cooler c z n (zone - 1) (no-hotter-refl r))
-  taken-rises (Voltage channel count) = quiet-rises (voltage-cooler c z n (channel - 1) count)
-  taken-rises (Fan fan count) = quiet-rises (fan-cooler c z n (fan - 1) count)
-  taken-rises (Hot input level) = quiet-rises (hot-cooler c z n (input - 1) _)
-  taken-rises (Pin level) = quiet-rises (pin-cooler c z n _)
-  taken-rises Tick = tick-rises
-  taken-rises Reset = quiet-rises (reset-cooler c z n)
-  taken-rises (Write address a byte) = record { chips = write-cooler c z n address a byte; answers = others (acknowledged _) (acknowledged _) }
-  taken-rises (Read address a) = record { chips = read-cooler c z n address a; answers = others (seen _) (seen _) }
+  taken-rises : (e : Event) (bytes : List ℕ) → Rises (takenStep c e bytes) (takenStep d e bytes)
+  unfolding steppedChip refusalOf eventIn takenStep writtenAnswer readAnswer seenBlockAnswer writtenBlockAnswer
+  taken-rises (Temperature zone r) bytes = quiet-rises (temperature-under c z n (zone - 1) (no-hotter-refl r))
+  taken-rises (Voltage channel count) bytes = quiet-rises (voltage-under c z n (channel - 1) count)
+  taken-rises (Fan fan count) bytes = quiet-rises (fan-under c z n (fan - 1) count)
+  taken-rises (Hot input level) bytes = quiet-rises (hot-under c z n (input - 1) _)
+  taken-rises (Pin level) bytes = quiet-rises (pin-under c z n _)
+  taken-rises Tick bytes = tick-rises
+  taken-rises Reset bytes = quiet-rises (reset-under c z n)
+  taken-rises (Write address a byte) bytes = record { chips = write-under c z n address a byte; answers = others (acknowledged _) (acknowledged _) }
+  taken-rises (Read address a) bytes = record { chips = read-under c z n address a; answers = others (seen _) (seen _) }
+  taken-rises (ReadBlock address command) bytes = record { chips = read-block-under c z n address command; answers = others (block _) (block _) }
+  taken-rises (WriteBlock address command) bytes =
+      record { chips = write-block-under c z n address command bytes; answers = others (block-written _) (block-written _) }
 
   -- taken by both or refused by both
-  same-rises : (e : Event) → Rises (steppedChip c e) (steppedChip d e)
+  same-rises : (g : Given) → Rises (givenStep c g) (givenStep d g)
   unfolding steppedChip
-  same-rises e = pick-related Rises (eventIn e) (taken-rises e) (refused-rises (itself c z n))
+  same-rises g =
+      pick-related Rises (eqb (refusalOf (g .event) (g .bytes)) 0) (taken-rises (g .event) (g .bytes)) (refused-rises (refusalOf (g .event) (g .bytes)) (itself c z n))
 
-  -- a T event that is hotter for the second
-  hotter-rises : (zone : ℕ) {r s : Reading} → NoHotter r s → NotRefused c (Temperature zone r) → NotRefused d (Temperature zone s) → Rises (steppedChip c (Temperature zone r)) (steppedChip d (Temperature zone s))
+  -- alike events: the same, or a T event that is hotter for the second
+  alike-rises : {g h : Given} → Alike g h → NotRefused c g → NotRefused d h → Rises (givenStep c g) (givenStep d h)
   unfolding takenStep
-  hotter-rises zone {r} {s} p f g =
-      rw (not-refused-taken c (Temperature zone r) f, not-refused-taken d (Temperature zone s) g) (quiet-rises (temperature-cooler c z n (zone - 1) p))
-
-  -- alike events
-  alike-rises : {e f : Event} → Alike e f → NotRefused c e → NotRefused d f → Rises (steppedChip c e) (steppedChip d f)
-  alike-rises (same e) p q = same-rises e
-  alike-rises (hotter zone {r} {s} h) p q = hotter-rises zone {r = r} {s = s} h p q
+  alike-rises (same g) p q = same-rises g
+  alike-rises (hotter zone bytes {r} {s} t) p q =
+      rw (not-refused-taken c _ p, not-refused-taken d _ q) (quiet-rises (temperature-under c z n (zone - 1) {r = r} {s = s} t))
 
 -- alike events, not refused, of any two chips of which the first is no hotter
-pub steps-rise : {c d : Chip} {e f : Event} → Valid (c .setup) → length (c .zones) ≡ length (d .zones) → Cooler c d → Alike e f → NotRefused c e → NotRefused d f → Rises (steppedChip c e) (steppedChip d f)
-unfolding zoneAt
-steps-rise {c} v many k a p q =
-    rw (is-beside k) (alike-rises c v (record { many = many; each = k .zones }) (k .drive) a p (rw (is-beside k) at q))
+pub steps-rise : {c d : Chip} {g h : Given} → Valid (c .setup) → Under c d → Alike g h → NotRefused c g → NotRefused d h → Rises (givenStep c g) (givenStep d h)
+steps-rise {c} {g = g} {h = h} v u a p =
+    under-beside (λ (d : Chip). NotRefused d h → Rises (givenStep c g) (givenStep d h)) (λ zs x z n q. alike-rises c v z n a p q) u

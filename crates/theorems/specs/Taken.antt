@@ -1,16 +1,8 @@
--- What any event leaves: what it leaves where it is taken, else the chip as it was. Assumes nothing.
-use mathlib.Core.Path.{_≡_, refl}
-use mathlib.Core.Bool.{Bool, true, false}
-use Rattle.laws.specs.Pick.{pick}
-use Rattle.state.specs.declared.Chip.{Chip}
-use Rattle.event.specs.declared.Event.{Event}
-use Rattle.event.specs.Event.{eventIn, refusedStep, takenStep, steppedChip}
+-- An event that is not refused. Assumes nothing.
+use mathlib.Core.Path.{_≡_}
+use Rattle.event.specs.Event.{refusalOf}
+use Rattle.event.specs.Run.{Given}
 
--- what holds of a chip, and of what an event in range leaves of it, holds of what the event leaves
-pub step-left : (P : Chip → Type 0) (c : Chip) (e : Event) → (eventIn e ≡ true → P (takenStep c e .chip)) → P c → P (steppedChip c e .chip)
-unfolding steppedChip refusedStep
-step-left P c e taken kept = go (eventIn e) taken
-  where
-    go : (t : Bool) → (t ≡ true → P (takenStep c e .chip)) → P (pick t (takenStep c e) (refusedStep c) .chip)
-    go true f = f refl
-    go false f = kept
+-- the event tells, with the bytes beside it
+abbrev pub IsTaken : Given → Type 0
+IsTaken g = refusalOf (g .event) (g .bytes) ≡ 0

@@ -21,8 +21,8 @@ use Rattle.bus.specs.Changes.{register-keeps-pin}
 use Rattle.bus.specs.Transactions.{held-same, held-stays}
 use Rattle.event.specs.declared.Event.the-variants.{Write, Read}
 use Rattle.event.specs.declared.Answer.the-variants.{Acknowledged, Byte}
-use Rattle.event.specs.Event.{eventIn, writtenAnswer, seenAnswer, readAnswer, takenStep, steppedChip}
-use Rattle.event.specs.Run.{answersTo}
+use Rattle.event.specs.Event.{eventIn, refusalOf, writtenAnswer, seenAnswer, readAnswer, takenStep, steppedChip}
+use Rattle.event.specs.Run.{alone, answersTo}
 use Rattle.theorems.specs.LockMarks.{marked-shown}
 
 -- the chip at power-on after a transaction for its address, 2Ch at pin level 0
@@ -35,12 +35,12 @@ held = refl
 
 -- a read for our address, and a write
 module _ (c : Chip) (ours : transacted c 0x2C .pin .latch ≡ Held 0x2C) (a : ℕ) where
-  reads : steppedChip c (Read 0x2C a) ≡ record { chip = transacted c 0x2C; answer = Byte (shownRegister (transacted c 0x2C) a) }
-  unfolding steppedChip eventIn takenStep readAnswer seenAnswer readByte isOurs
+  reads : steppedChip c (Read 0x2C a) [] ≡ record { chip = transacted c 0x2C; answer = Byte (shownRegister (transacted c 0x2C) a) }
+  unfolding steppedChip refusalOf eventIn takenStep readAnswer seenAnswer readByte isOurs
   reads = rw ours
 
-  writes : (byte : ℕ) → steppedChip c (Write 0x2C a byte) ≡ record { chip = wroteRegister (transacted c 0x2C) a byte; answer = Acknowledged true }
-  unfolding steppedChip eventIn takenStep writtenAnswer wroteByte isOurs
+  writes : (byte : ℕ) → steppedChip c (Write 0x2C a byte) [] ≡ record { chip = wroteRegister (transacted c 0x2C) a byte; answer = Acknowledged true }
+  unfolding steppedChip refusalOf eventIn takenStep writtenAnswer wroteByte isOurs
   writes byte = rw ours
 
 -- a write to BFh, all of whose bits are writable
@@ -65,7 +65,7 @@ unfolding lockMarked lockMarks registerAt withRegister storedByte isSet transact
 shown-after = marked-shown changed-BFh PWM-RAMP-CONTROL tt ∙ rw (written latched refl 0x01)
 
 -- BFh has 00h at power-on, and 01h after W 2C BF 01
-pub write-is-read : answersTo (powerOn defaultSetup) (Read 0x2C 0xBF ∷ Write 0x2C 0xBF 0x01 ∷ Read 0x2C 0xBF ∷ []) ≡ Byte 0x00 ∷ Acknowledged true ∷ Byte 0x01 ∷ []
+pub write-is-read : answersTo (powerOn defaultSetup) (alone (Read 0x2C 0xBF) ∷ alone (Write 0x2C 0xBF 0x01) ∷ alone (Read 0x2C 0xBF) ∷ []) ≡ Byte 0x00 ∷ Acknowledged true ∷ Byte 0x01 ∷ []
 unfolding answersTo
 write-is-read =
     rw (reads (powerOn defaultSetup) held 0xBF, writes latched (held-stays latched 0x2C held) 0xBF 0x01, held-same latched 0x2C held)

@@ -11,8 +11,7 @@ use Rattle.state.specs.PowerOn.{defaultSetup, powerOn}
 use Rattle.event.specs.declared.Answer.{Answer}
 use Rattle.event.specs.declared.Answer.the-variants.{Nothing, Ticked}
 use Rattle.event.specs.declared.Tick.{Tick}
-use Rattle.event.specs.Event.{steppedChip}
-use Rattle.event.specs.Run.{answersTo}
+use Rattle.event.specs.Run.{givenStep, answersTo}
 use Rattle.event.specs.Session.{session, answers, session-answers}
 
 -- the definition's answer to a line of the session, without a setup
@@ -38,7 +37,7 @@ pub always-256 : (t : Tick) → t .duty1 ≡ 256 → answer 4 ≡ Ticked t → �
 always-256 t d e = omega (arith, second-duty t e)
 
 -- "one that takes events and does nothing", so that each event finds the chip as at power-on: the fourth K has an error that the first has not
-pub does-nothing : answersTo (powerOn defaultSetup) session ≡ map (λ e. steppedChip (powerOn defaultSetup) e .answer) session → ⊥
+pub does-nothing : answersTo (powerOn defaultSetup) session ≡ map (λ g. givenStep (powerOn defaultSetup) g .answer) session → ⊥
 unfolding answersTo session answers
 does-nothing e = never (fourth-errors _ (ap (λ (l : List Answer). getD l 8 Nothing) e ∙ ap (λ (l : List Answer). getD l 0 Nothing) session-answers))
 

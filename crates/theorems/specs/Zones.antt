@@ -2,15 +2,19 @@
 -- from 0 in the order 1a, 1b, 2a, 2b, 3, 4; tables count from 0. Assumes nothing.
 use mathlib.Core.Path.{_≡_}
 use mathlib.Core.Bool.{not}
-use Prim.Native.Nat.{ℕ, suc, _<_}
+use mathlib.Core.List.{List}
+use Prim.Native.Nat.{ℕ, suc, _+_, _<_}
 use lib.Dec.{T, eqb}
 use lib.IntN.{ℤ}
+use lib.ListN.{length, getD}
 use Rattle.laws.specs.Pick.{pick}
+use Rattle.map.specs.declared.Block.the-variants.{Fixed}
 use Rattle.map.specs.declared.Kind.the-variants.{Whole}
 use Rattle.map.specs.Names.{TEMPERATURE-SOURCE-SELECT, FAN-CONTROL-BINDINGS, CONFIGURATION, Z1BE, Z2BE, LUT1-Z1, LUT2-Z2, LUT3-Z1, LUT4-Z2}
 use Rattle.map.specs.Map.{homeOf}
 use Rattle.map.specs.Bits.{isSet}
 use Rattle.map.specs.Kind.{kindOf}
+use Rattle.map.specs.Blocks.{blockOf}
 use Rattle.temperature.specs.declared.Reading.the-variants.{Taken, Missing}
 use Rattle.state.specs.declared.Chip.{Chip}
 use Rattle.state.specs.declared.Count.the-variants as count
@@ -19,7 +23,7 @@ use Rattle.sense.specs.Events.{zoneHeard, feedsThree, feedsFour}
 use Rattle.bus.specs.Latch.{isOurs, transacted}
 use Rattle.bus.specs.Write.{zoneWritable, isShut}
 use Rattle.event.specs.declared.Event.{Event}
-use Rattle.event.specs.declared.Event.the-variants.{Temperature, Voltage, Write}
+use Rattle.event.specs.declared.Event.the-variants.{Temperature, Voltage, Write, WriteBlock}
 
 -- 31h and 35h of a chip
 abbrev pub sourceOf : Chip → ℕ
@@ -27,6 +31,10 @@ sourceOf c = registerAt c TEMPERATURE-SOURCE-SELECT
 
 abbrev pub bindingsOf : Chip → ℕ
 bindingsOf c = registerAt c FAN-CONTROL-BINDINGS
+
+-- and E3h, with LOCK
+abbrev pub lockOf : Chip → ℕ
+lockOf c = registerAt c CONFIGURATION
 
 -- "Table 1 and 3 follow zone 1 if their 35h bit (4, 6) is set, else zone 3; table 2 and 4 follow zone 2 (bits 5, 7), else zone 4."
 unfoldable pub zoneOf : Chip → ℕ → ℕ
@@ -51,9 +59,21 @@ pub data Feeds (source channel : ℕ) : ℕ → Type 0 where
   three : T (feedsThree source channel) → Feeds source channel 4
   four : T (feedsFour source channel) → Feeds source channel 5
 
--- an event gives zone z a reading: a T that is heard, a V above 0 that feeds it, or a whole-byte write other than 80h that takes effect
-pub data GivesZone (c : Chip) (z : ℕ) : Event → Type 0 where
-  heard : {h : ℤ} → T (zoneHeard (sourceOf c) z) → GivesZone c z (Temperature (suc z) (Taken h))
-  fed : {channel n : ℕ} → 0 < n → Feeds (sourceOf c) channel z → GivesZone c z (Voltage (suc channel) (count.Taken n))
-  written : {address a byte : ℕ} → T (isOurs (transacted c address .pin .latch) address) → T (not (isShut (registerAt c CONFIGURATION) (homeOf a)))
-      → kindOf (homeOf a) ≡ Whole z → T (zoneWritable (sourceOf c) z) → (byte ≡ 0x80 → ⊥) → GivesZone c z (Write address a byte)
+-- a byte that is written at an address gives zone z a reading, by what 31h and E3h hold: the address is that of its whole byte or of a
+-- mirror, LOCK does not shut it, the zone is writable, and the byte is not 80h
+pub record WritesZone (source lock z a byte : ℕ) : Type 0 where
+  pub whole : kindOf (homeOf a) ≡ Whole z
+  pub unshut : T (not (isShut lock (homeOf a)))
+  pub writable : T (zoneWritable source z)
+  pub other : byte ≡ 0x80 → ⊥
+
+-- an event, with the bytes beside it, gives zone z a reading: a T that is heard, a V above 0 that feeds it, a whole-byte write other than 80h
+-- that takes effect, or a block write, for our address and with the listed count, one of whose bytes is such a write. No block has 31h or E3h
+-- in it, so every byte finds there what the block found
+pub data GivesZone (c : Chip) (z : ℕ) : Event → List ℕ → Type 0 where
+  heard : {h : ℤ} {bytes : List ℕ} → T (zoneHeard (sourceOf c) z) → GivesZone c z (Temperature (suc z) (Taken h)) bytes
+  fed : {channel n : ℕ} {bytes : List ℕ} → 0 < n → Feeds (sourceOf c) channel z → GivesZone c z (Voltage (suc channel) (count.Taken n)) bytes
+  written : {address a byte : ℕ} {bytes : List ℕ} → T (isOurs (transacted c address .pin .latch) address) → WritesZone (sourceOf c) (lockOf c) z a byte
+      → GivesZone c z (Write address a byte) bytes
+  in-block : {address command first k : ℕ} {bytes : List ℕ} → T (isOurs (transacted c address .pin .latch) address) → blockOf command ≡ Fixed first (length bytes)
+      → k < length bytes → WritesZone (sourceOf c) (lockOf c) z (first + k) (getD bytes k 0) → GivesZone c z (WriteBlock address command) bytes

@@ -51,6 +51,18 @@ enum-known-event-7 c = search needs
 address-in-requires-2 : tie.Need-address-in-requires-2
 address-in-requires-2 c κs = search needs
 
+enum-known-event-8 : tie.Need-enum-known-event-8
+enum-known-event-8 c = search needs
+
+address-in-requires-3 : tie.Need-address-in-requires-3
+address-in-requires-3 c κs = search needs
+
+enum-known-event-9 : tie.Need-enum-known-event-9
+enum-known-event-9 c = search needs
+
+address-in-requires-4 : tie.Need-address-in-requires-4
+address-in-requires-4 c κs = search needs
+
 returns : tie.Need-returns
 unfolding eventIn
 returns c = rw (c .before .before .event .given .1) (c .temperature-in .ensures)
@@ -87,6 +99,14 @@ returns-9 : tie.Need-returns-9
 unfolding eventIn
 returns-9 c = rw (c .before .before .event7 .given .1) (c .address-in2 .ensures)
 
+returns-10 : tie.Need-returns-10
+unfolding eventIn
+returns-10 c = rw (c .before .before .event8 .given .1) (c .address-in3 .ensures)
+
+returns-11 : tie.Need-returns-11
+unfolding eventIn
+returns-11 c = rw (c .before .before .event9 .given .1) (c .address-in4 .ensures)
+
 pub event-in-spec : {M : Type 1} → statement M
 event-in-spec =
     tie.close
@@ -107,6 +127,10 @@ event-in-spec =
     address-in-requires
     enum-known-event-7
     address-in-requires-2
+    enum-known-event-8
+    address-in-requires-3
+    enum-known-event-9
+    address-in-requires-4
     returns
     returns-2
     returns-3
@@ -115,4 +139,6 @@ event-in-spec =
     returns-6
     returns-7
     returns-8
-    returns-9)
+    returns-9
+    returns-10
+    returns-11)

@@ -3,19 +3,27 @@
 use mathlib.Core.Path.{sym, _∙_}
 use native.Mathlib.Omega.{arith}
 use borrow.Author.Needs.{needs}
+use borrow.Author.Tests.{eqb-false}
 use Rattle.state.specs.Parts.{registerAt}
 use Rattle.state.specs.With.{withRegister, withZone, withVolt, withFan, withHotInput}
 use Rattle.sense.specs.Events.{tookTemperature, fedZone, tookHot, tookPin, tookReset, voltage-by-parts, fan-by-parts}
+use Rattle.bus.specs.Latch.{transacted}
 use Rattle.bus.specs.Write.{changed, wrote-by-parts}
 use Rattle.bus.specs.Read.{read-by-parts}
-use Rattle.event.specs.Event.{eventIn, quietStep, refusedStep, tickAnswer, writtenAnswer, seenAnswer, readAnswer, takenStep, steppedChip}
+use Rattle.bus.specs.Block.{readBlock, wroteBy, wroteBlock}
+use Rattle.bus.specs.Blocks.{wrote-from-by-parts}
+use Rattle.event.specs.Event.{eventIn, quietStep, refusedStep, tickAnswer, writtenAnswer, seenAnswer, readAnswer, blockAnswer, seenBlockAnswer, writtenBlockAnswer, takenStep}
+use Rattle.event.specs.Refusal.{step-refused}
 use Rattle.event.specs.Ticking.{tick-by-parts}
 use Rattle.event.proofs.Ranges.{place, passed, taken-step}
 use Rattle.event.proofs.step.Statement.{statement}
 use Rattle.event.proofs.step.Tie as tie
 
-event-in-requires : tie.Need-event-in-requires
-event-in-requires c κs = search needs
+is-taken-requires : tie.Need-is-taken-requires
+is-taken-requires c κs = search needs
+
+refusal-of-requires : tie.Need-refusal-of-requires
+refusal-of-requires c κs = search needs
 
 enum-known-event : tie.Need-enum-known-event
 enum-known-event c = search needs
@@ -24,7 +32,7 @@ sub-at : tie.Need-sub-at
 unfolding eventIn
 sub-at c =
     let g = c .before in
-    let p = passed (g .before .before .before .event-in .ensures) (g .before .before .if1 .taken) (g .event .given .1) in
+    let p = passed (g .before .before .before .is-taken .ensures) (g .before .before .if1 .taken) (g .event .given .1) in
     place 5 _ _ (p .inside) .from-one
 
 cast-source : tie.Need-cast-source
@@ -46,7 +54,7 @@ element-set-from-z : tie.Need-element-set-from-z
 unfolding eventIn
 element-set-from-z c =
     let g = c .before .before .before .before in
-    let p = passed (g .before .before .before .event-in .ensures) (g .before .before .if1 .taken) (g .event .given .1) in
+    let p = passed (g .before .before .before .is-taken .ensures) (g .before .before .if1 .taken) (g .event .given .1) in
     let l = place 5 _ _ (p .inside) .below in omega arith
 
 enum-known-event-2 : tie.Need-enum-known-event-2
@@ -56,7 +64,7 @@ sub-at-2 : tie.Need-sub-at-2
 unfolding eventIn
 sub-at-2 c =
     let g = c .before in
-    let p = passed (g .before .before .before .event-in .ensures) (g .before .before .if1 .taken) (g .event2 .given .1) in
+    let p = passed (g .before .before .before .is-taken .ensures) (g .before .before .if1 .taken) (g .event2 .given .1) in
     place 16 _ _ (p .inside) .from-one
 
 cast-gauge : tie.Need-cast-gauge
@@ -69,7 +77,7 @@ element-set-from-gauge : tie.Need-element-set-from-gauge
 unfolding eventIn
 element-set-from-gauge c =
     let g = c .before in
-    let p = passed (g .before .before .before .event-in .ensures) (g .before .before .if1 .taken) (g .event2 .given .1) in
+    let p = passed (g .before .before .before .is-taken .ensures) (g .before .before .if1 .taken) (g .event2 .given .1) in
     place 16 _ _ (p .inside) .below
 
 compare-voltage-requires : tie.Need-compare-voltage-requires
@@ -103,7 +111,7 @@ sub-at-3 : tie.Need-sub-at-3
 unfolding eventIn
 sub-at-3 c =
     let g = c .before in
-    let p = passed (g .before .before .before .event-in .ensures) (g .before .before .if1 .taken) (g .event3 .given .1) in
+    let p = passed (g .before .before .before .is-taken .ensures) (g .before .before .if1 .taken) (g .event3 .given .1) in
     place 4 _ _ (p .inside) .from-one
 
 cast-gauge-2 : tie.Need-cast-gauge-2
@@ -116,7 +124,7 @@ element-set-from-gauge-2 : tie.Need-element-set-from-gauge-2
 unfolding eventIn
 element-set-from-gauge-2 c =
     let g = c .before in
-    let p = passed (g .before .before .before .event-in .ensures) (g .before .before .if1 .taken) (g .event3 .given .1) in
+    let p = passed (g .before .before .before .is-taken .ensures) (g .before .before .if1 .taken) (g .event3 .given .1) in
     place 4 _ _ (p .inside) .below
 
 compare-count-requires : tie.Need-compare-count-requires
@@ -129,7 +137,7 @@ sub-at-4 : tie.Need-sub-at-4
 unfolding eventIn
 sub-at-4 c =
     let g = c .before in
-    let p = passed (g .before .before .before .event-in .ensures) (g .before .before .if1 .taken) (g .event4 .given .1) in
+    let p = passed (g .before .before .before .is-taken .ensures) (g .before .before .if1 .taken) (g .event4 .given .1) in
     place 4 _ _ (p .inside) .from-one
 
 level-of-requires : tie.Need-level-of-requires
@@ -142,7 +150,7 @@ element-write-next : tie.Need-element-write-next
 unfolding eventIn
 element-write-next c =
     let g = c .before .before in
-    let p = passed (g .before .before .before .event-in .ensures) (g .before .before .if1 .taken) (g .event4 .given .1) in
+    let p = passed (g .before .before .before .is-taken .ensures) (g .before .before .if1 .taken) (g .event4 .given .1) in
     place 4 _ _ (p .inside) .below
 
 enum-known-event-5 : tie.Need-enum-known-event-5
@@ -226,18 +234,51 @@ answers-requires-2 c κs = search needs
 show-register-requires : tie.Need-show-register-requires
 show-register-requires c κs = search needs
 
+enum-known-event-8 : tie.Need-enum-known-event-8
+enum-known-event-8 c = search needs
+
+transact-requires-3 : tie.Need-transact-requires-3
+transact-requires-3 c κs = search needs
+
+block-read-requires : tie.Need-block-read-requires
+block-read-requires c κs = search needs
+
+enum-told-4 : tie.Need-enum-told-4
+enum-told-4 c = search needs
+
+enum-known-first : tie.Need-enum-known-first
+enum-known-first c = search needs
+
+enum-known-event-9 : tie.Need-enum-known-event-9
+enum-known-event-9 c = search needs
+
+transact-requires-4 : tie.Need-transact-requires-4
+transact-requires-4 c κs = search needs
+
+block-written-requires : tie.Need-block-written-requires
+block-written-requires c κs = search needs
+
+enum-told-5 : tie.Need-enum-told-5
+enum-told-5 c = search needs
+
+enum-known-first-2 : tie.Need-enum-known-first-2
+enum-known-first-2 c = search needs
+
+write-block-requires : tie.Need-write-block-requires
+write-block-requires c κs = search needs
+
 returns : tie.Need-returns
 unfolding takenStep quietStep tookTemperature withZone registerAt
 returns c =
     let g = c .before .before .before .before in
-    let p = passed (g .before .before .before .event-in .ensures) (g .before .before .if1 .taken) (g .event .given .1) in
+    let p = passed (g .before .before .before .is-taken .ensures) (g .before .before .if1 .taken) (g .event .given .1) in
     taken-step p _ (rw (sym (c .before .hears-zone .ensures) ∙ c .if2 .taken))
 
 returns-2 : tie.Need-returns-2
 unfolding takenStep quietStep tookTemperature registerAt
 returns-2 c =
     let g = c .before .before .before .before in
-    let p = passed (g .before .before .before .event-in .ensures) (g .before .before .if1 .taken) (g .event .given .1) in
+    let p = passed (g .before .before .before .is-taken .ensures) (g .before .before .if1 .taken) (g .event .given .1) in
     taken-step p _ (rw (sym (c .before .hears-zone .ensures) ∙ c .if2 .left))
 
 returns-3 : tie.Need-returns-3
@@ -245,7 +286,7 @@ unfolding eventIn takenStep quietStep fedZone withVolt withZone registerAt
 returns-3 c =
     let v = c .before .before .before .before in
     let g = v .before .before .before in
-    let p = passed (g .before .before .before .event-in .ensures) (g .before .before .if1 .taken) (g .event2 .given .1) in
+    let p = passed (g .before .before .before .is-taken .ensures) (g .before .before .if1 .taken) (g .event2 .given .1) in
     taken-step p _ (rw (voltage-by-parts _ _ _ (place 16 _ _ (p .inside) .below), ← v .compare-voltage .ensures, sym (c .before .feeds-three .ensures) ∙ c .if3 .taken, c .before .before .volt-reading .ensures))
 
 returns-4 : tie.Need-returns-4
@@ -254,7 +295,7 @@ returns-4 c =
     let three = c .before .before in
     let v = three .before .before .before .before in
     let g = v .before .before .before in
-    let p = passed (g .before .before .before .event-in .ensures) (g .before .before .if1 .taken) (g .event2 .given .1) in
+    let p = passed (g .before .before .before .is-taken .ensures) (g .before .before .if1 .taken) (g .event2 .given .1) in
     taken-step p _ (rw (voltage-by-parts _ _ _ (place 16 _ _ (p .inside) .below), ← v .compare-voltage .ensures, sym (three .before .feeds-three .ensures) ∙ three .if3 .left, sym (c .before .feeds-four .ensures) ∙ c .if4 .taken, three .before .before .volt-reading .ensures))
 
 returns-5 : tie.Need-returns-5
@@ -263,28 +304,28 @@ returns-5 c =
     let three = c .before .before in
     let v = three .before .before .before .before in
     let g = v .before .before .before in
-    let p = passed (g .before .before .before .event-in .ensures) (g .before .before .if1 .taken) (g .event2 .given .1) in
+    let p = passed (g .before .before .before .is-taken .ensures) (g .before .before .if1 .taken) (g .event2 .given .1) in
     taken-step p _ (rw (voltage-by-parts _ _ _ (place 16 _ _ (p .inside) .below), ← v .compare-voltage .ensures, sym (three .before .feeds-three .ensures) ∙ three .if3 .left, sym (c .before .feeds-four .ensures) ∙ c .if4 .left))
 
 returns-6 : tie.Need-returns-6
 unfolding eventIn takenStep quietStep withFan
 returns-6 c =
     let g = c .before .before .before in
-    let p = passed (g .before .before .before .event-in .ensures) (g .before .before .if1 .taken) (g .event3 .given .1) in
+    let p = passed (g .before .before .before .is-taken .ensures) (g .before .before .if1 .taken) (g .event3 .given .1) in
     taken-step p _ (rw (fan-by-parts _ _ _ (place 4 _ _ (p .inside) .below), ← c .compare-count .ensures))
 
 returns-7 : tie.Need-returns-7
 unfolding takenStep quietStep tookHot withHotInput
 returns-7 c =
     let g = c .before .before in
-    let p = passed (g .before .before .before .event-in .ensures) (g .before .before .if1 .taken) (g .event4 .given .1) in
+    let p = passed (g .before .before .before .is-taken .ensures) (g .before .before .if1 .taken) (g .event4 .given .1) in
     taken-step p _ (rw (c .level-of .ensures))
 
 returns-8 : tie.Need-returns-8
 unfolding takenStep quietStep tookPin
 returns-8 c =
     let g = c .before .before .before in
-    let p = passed (g .before .before .before .event-in .ensures) (g .before .before .if1 .taken) (g .event5 .given .1) in
+    let p = passed (g .before .before .before .is-taken .ensures) (g .before .before .if1 .taken) (g .event5 .given .1) in
     taken-step p _ (rw (c .before .level-of2 .ensures))
 
 returns-9 : tie.Need-returns-9
@@ -293,14 +334,14 @@ returns-9 c =
     let ticked = c .before .before .before .before .before .before .before .before .before .before .before in
     let marked = ticked .before .before .before .before .before .before .before in
     let g = marked .before .before .before .before in
-    let p = passed (g .before .before .before .event-in .ensures) (g .before .before .if1 .taken) (g .enum-told .given .1) in
-    taken-step p _ (rw (c .errors-standing .ensures, c .before .before .before .alert-active .ensures) (tick-by-parts _ (marked .mark-missing .ensures) (ticked .tick .ensures)))
+    let p = passed (g .before .before .before .is-taken .ensures) (g .before .before .if1 .taken) (g .enum-told .given .1) in
+    taken-step p _ (rw (c .errors-standing .ensures, c .before .before .before .alert-active .ensures) (tick-by-parts _ _ (marked .mark-missing .ensures) (ticked .tick .ensures)))
 
 returns-10 : tie.Need-returns-10
 unfolding takenStep quietStep tookReset
 returns-10 c =
     let g = c .before .before in
-    let p = passed (g .before .before .before .event-in .ensures) (g .before .before .if1 .taken) (g .enum-told2 .given .1) in
+    let p = passed (g .before .before .before .is-taken .ensures) (g .before .before .if1 .taken) (g .enum-told2 .given .1) in
     taken-step p _ (rw (c .take-reset .ensures))
 
 returns-11 : tie.Need-returns-11
@@ -309,7 +350,7 @@ returns-11 c =
     let ours = c .before .before .before .before .before .before in
     let t = ours .before .before in
     let g = t .before .before .before in
-    let p = passed (g .before .before .before .event-in .ensures) (g .before .before .if1 .taken) (g .event6 .given .1) in
+    let p = passed (g .before .before .before .is-taken .ensures) (g .before .before .if1 .taken) (g .event6 .given .1) in
     taken-step p _ (rw (wrote-by-parts, ← t .transact .ensures, sym (ours .before .answers .ensures) ∙ ours .if5 .taken, ← c .before .before .change-of .ensures, ours .if5 .taken, c .enum-told3 .given .1))
 
 returns-12 : tie.Need-returns-12
@@ -318,7 +359,7 @@ returns-12 c =
     let ours = c .before .before .before .before .before .before .before in
     let t = ours .before .before in
     let g = t .before .before .before in
-    let p = passed (g .before .before .before .event-in .ensures) (g .before .before .if1 .taken) (g .event6 .given .1) in
+    let p = passed (g .before .before .before .is-taken .ensures) (g .before .before .if1 .taken) (g .event6 .given .1) in
     taken-step p _ (rw (wrote-by-parts, ← t .transact .ensures, sym (ours .before .answers .ensures) ∙ ours .if5 .taken, ← c .before .before .before .change-of .ensures, ours .if5 .taken, c .before .home .given .1))
 
 returns-13 : tie.Need-returns-13
@@ -327,7 +368,7 @@ returns-13 c =
     let ours = c .before .before .before .before .before .before .before .before in
     let t = ours .before .before in
     let g = t .before .before .before in
-    let p = passed (g .before .before .before .event-in .ensures) (g .before .before .if1 .taken) (g .event6 .given .1) in
+    let p = passed (g .before .before .before .is-taken .ensures) (g .before .before .if1 .taken) (g .event6 .given .1) in
     taken-step p _ (rw (wrote-by-parts, ← t .transact .ensures, sym (ours .before .answers .ensures) ∙ ours .if5 .taken, ← c .before .before .before .before .change-of .ensures, ours .if5 .taken, c .before .before .zone .given .1, ← c .with-reading .ensures))
 
 returns-14 : tie.Need-returns-14
@@ -335,7 +376,7 @@ unfolding takenStep writtenAnswer
 returns-14 c =
     let t = c .before .before in
     let g = t .before .before .before in
-    let p = passed (g .before .before .before .event-in .ensures) (g .before .before .if1 .taken) (g .event6 .given .1) in
+    let p = passed (g .before .before .before .is-taken .ensures) (g .before .before .if1 .taken) (g .event6 .given .1) in
     taken-step p _ (rw (wrote-by-parts, ← t .transact .ensures, sym (c .before .answers .ensures) ∙ c .if5 .left, c .if5 .left))
 
 returns-15 : tie.Need-returns-15
@@ -344,7 +385,7 @@ returns-15 c =
     let ours = c .before .before .before .before .before .before in
     let t = ours .before .before in
     let g = t .before .before .before in
-    let p = passed (g .before .before .before .event-in .ensures) (g .before .before .if1 .taken) (g .event7 .given .1) in
+    let p = passed (g .before .before .before .is-taken .ensures) (g .before .before .if1 .taken) (g .event7 .given .1) in
     taken-step p _ (rw (read-by-parts, ← t .transact2 .ensures, sym (ours .before .answers2 .ensures) ∙ ours .if6 .taken, ← c .show-register .ensures))
 
 returns-16 : tie.Need-returns-16
@@ -352,18 +393,53 @@ unfolding takenStep readAnswer seenAnswer
 returns-16 c =
     let t = c .before .before in
     let g = t .before .before .before in
-    let p = passed (g .before .before .before .event-in .ensures) (g .before .before .if1 .taken) (g .event7 .given .1) in
+    let p = passed (g .before .before .before .is-taken .ensures) (g .before .before .if1 .taken) (g .event7 .given .1) in
     taken-step p _ (rw (read-by-parts, ← t .transact2 .ensures, sym (c .before .answers2 .ensures) ∙ c .if6 .left))
 
 returns-17 : tie.Need-returns-17
-unfolding steppedChip refusedStep
-returns-17 c = rw (sym (c .before .event-in .ensures) ∙ c .if1 .left)
+unfolding takenStep seenBlockAnswer blockAnswer readBlock transacted
+returns-17 c =
+    let r = c .before .before in
+    let g = r .before .before .before .before in
+    let p = passed (g .before .before .before .is-taken .ensures) (g .before .before .if1 .taken) (g .event8 .given .1) in
+    taken-step p _ (rw (← r .before .transact3 .ensures, ← r .block-read .ensures, c .enum-told4 .given .1))
+
+returns-18 : tie.Need-returns-18
+unfolding takenStep seenBlockAnswer blockAnswer readBlock transacted
+returns-18 c =
+    let r = c .before .before .before in
+    let g = r .before .before .before .before in
+    let p = passed (g .before .before .before .is-taken .ensures) (g .before .before .if1 .taken) (g .event8 .given .1) in
+    taken-step p _ (rw (← r .before .transact3 .ensures, ← r .block-read .ensures, c .before .first .given .1))
+
+returns-19 : tie.Need-returns-19
+unfolding takenStep writtenBlockAnswer wroteBlock wroteBy transacted
+returns-19 c =
+    let w = c .before .before in
+    let g = w .before .before .before .before in
+    let p = passed (g .before .before .before .is-taken .ensures) (g .before .before .if1 .taken) (g .event9 .given .1) in
+    taken-step p _ (rw (← w .before .transact4 .ensures, ← w .block-written .ensures, c .enum-told5 .given .1))
+
+returns-20 : tie.Need-returns-20
+unfolding takenStep writtenBlockAnswer wroteBlock wroteBy transacted
+returns-20 c =
+    let told = c .before .before .before .before in
+    let w = told .before .before in
+    let g = w .before .before .before .before in
+    let p = passed (g .before .before .before .is-taken .ensures) (g .before .before .if1 .taken) (g .event9 .given .1) in
+    taken-step p _ (rw (← w .before .transact4 .ensures, ← w .block-written .ensures, told .first2 .given .1, wrote-from-by-parts, ← c .write-block .ensures .0, ← c .write-block .ensures .1))
+
+returns-21 : tie.Need-returns-21
+unfolding refusedStep
+returns-21 c =
+    let g = c .before in
+    rw (step-refused _ _ _ (eqb-false _ 0 (sym (g .before .is-taken .ensures) ∙ g .if1 .left)), ← c .refusal-of .ensures)
 
 pub step-spec : {M : Type 1} → statement M
 step-spec =
     tie.close
     (tie.spec
-    event-in-requires
+    is-taken-requires
     enum-known-event
     sub-at
     cast-source
@@ -423,6 +499,18 @@ step-spec =
     transact-requires-2
     answers-requires-2
     show-register-requires
+    enum-known-event-8
+    transact-requires-3
+    block-read-requires
+    enum-told-4
+    enum-known-first
+    enum-known-event-9
+    transact-requires-4
+    block-written-requires
+    enum-told-5
+    enum-known-first-2
+    write-block-requires
+    refusal-of-requires
     returns
     returns-2
     returns-3
@@ -439,4 +527,8 @@ step-spec =
     returns-14
     returns-15
     returns-16
-    returns-17)
+    returns-17
+    returns-18
+    returns-19
+    returns-20
+    returns-21)

@@ -53,6 +53,7 @@ use Rattle.port.proofs.take_line as callee
 use Rattle.port.proofs.take_line.Symbol as callee-def
 use Rattle.port.proofs.take_line.Symbol.{name as #callee}
 use Rattle.port.proofs.take_line.Met as callee-thm
+use Rattle.port.proofs.Walk.{three-in}
 use Rattle.lent.proofs.Lend.{lend-mut, take-back}
 use Rattle.lent.proofs.take_line.Key.{name as #self}
 use Rattle.lent.proofs.take_line as self
@@ -128,13 +129,6 @@ module _ {M : Type 1} (𝓤 : URA M) (H : Heap 𝓤) (A : Atoms 𝓤) (W : Given
   abbrev to-callee : (l α : ℕ) (γ : GName) → Callee 𝓤 H A at-mem run .Ghost
   to-callee l α γ = (((α ∷ [], (κ₁, (κ₂, tt))), (fullShare, (q₁, (q₂, tt))), tt, (lentTo l γ, (xl, (xo, tt))), (vptr l 0 ∷ [], (sl ∷ [], (so ∷ [], tt)))), tt)
 
-  abbrev handed : (l α : ℕ) (γ : GName) → List (Item 𝓤)
-  handed l α γ = ‵ (MutRef (named 0) (α ∷ []) T.the-row .own (lentTo l γ) (vptr l 0 ∷ [])) ∷ (‵ OL ⊛ ‵ OO) ∷ (‵ (flft (α ∷ []) fullShare) ⊛ toks) ∷ []
-
-  goes-in : (l α : ℕ) (γ : GName) → ent 𝓤 (⋆ 𝓤 H A (handed l α γ)) (Callee 𝓤 H A at-mem run .pre (to-callee l α γ))
-  goes-in l α γ =
-      qed W (handed l α γ) ∵ move ! (1 ∷ []) $ split ! $ nothing ! $ move ! (2 ∷ 0 ∷ []) $ fjoin ! $ move ! (1 ∷ 0 ∷ []) $ fjoin ! $ move ! (1 ∷ 0 ∷ []) $ fjoin ! $ move ! (1 ∷ 0 ∷ []) $ join ! $ frame ! $ done !
-
   -- what `port::take_line` says of its reply, of the last session and of the last output
   abbrev Said : Reply → Session → List ℕ → Type 0
   Said r z zs = (r ≡ takenLine h (xl .now) (xo .now) .reply) × (z ≡ takenLine h (xl .now) (xo .now) .session) × (zs ≡ bufferAfter h (xl .now) (xo .now))
@@ -154,7 +148,7 @@ module _ {M : Type 1} (𝓤 : URA M) (H : Heap 𝓤) (A : Atoms 𝓤) (W : Given
         assigns ! (agg ! (and-then ! (load ! (from ! (stop !)) (look ! 4 refl)) (and-then ! (load ! (from ! (fld ! refl (stop !))) (look-in ! 12 (sub ! 1 refl (whole !)))) (no-more !)))) (from ! (stop !)) (init ! 2 refl (tt, (tt, (record { fits = ro .0 }, tt)))) $
         move ! (10 ∷ 20 ∷ []) $ lend-mut ! tt T.the-row refl (named 0) h (mach h) l₄ (λ α γ.
         -- [the token; the reference; what the lender keeps; _9; …; _8; …; _7; …; _6; …; _5; …; of _4; _3; …; _2; …; _1; …; _0; …; out; true; line; the other tokens]
-        move ! (0 ∷ 25 ∷ []) $ join ! $ move ! (24 ∷ 22 ∷ []) $ join ! $ move ! (2 ∷ 0 ∷ 1 ∷ []) $ use3 W (raw (Callee 𝓤 H A at-mem run .pre (to-callee l₄ α γ))) (goes-in l₄ α γ) $
+        move ! (0 ∷ 25 ∷ []) $ join ! $ move ! (24 ∷ 22 ∷ []) $ join ! $ move ! (2 ∷ 0 ∷ 1 ∷ []) $ use3 W (raw (Callee 𝓤 H A at-mem run .pre (to-callee l₄ α γ))) (three-in W (MutRef (named 0) (α ∷ []) T.the-row .own (lentTo l₄ γ) (vptr l₄ 0 ∷ [])) OL OO (‵ (flft (α ∷ []) fullShare) ⊛ toks)) $
         calls-at ! fm (Callee 𝓤 H A at-mem run) known (to-callee l₄ α γ) (and-then ! (load ! (from ! (stop !)) (look ! 8 refl)) (and-then ! (load ! (from ! (stop !)) (look ! 15 refl)) (and-then ! (load ! (from ! (stop !)) (look ! 4 refl)) (no-more !)))) (λ v.
         use1 W (later (some (λ (r : Reply). ((‵ (flft (α ∷ []) fullShare) ⊛ toks) ⊛ ‵ (R.the-row .own r (v ∷ []))) ⊛ raw (ensured 𝓤 H A callee.ended (callee.clauses 𝓤 H A at-mem run) (α ∷ [], (κ₁, (κ₂, tt))) (lentTo l₄ γ, (xl, (xo, tt))) tt r)))) (id⊢ 𝓤 _) $ await ! tt $ pick ! (λ r.
         split ! $ move ! (1 ∷ []) $ use1 W (some (λ (zs : Session × (Unit {0} × (List ℕ × Unit {0}))). ‵ (lasts callee.ended (α ∷ [], (κ₁, (κ₂, tt))) (lentTo l₄ γ, (xl, (xo, tt))) zs) ⊛ raw (fact 𝓤 (Said r (zs .0) (zs .1 .1 .0))))) (id⊢ 𝓤 _) $ pick ! (λ zs.

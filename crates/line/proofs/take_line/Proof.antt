@@ -1,4 +1,7 @@
 use mathlib.Core.Path.{sym, _∙_}
+use native.Mathlib.Omega.{arith}
+use lib.ListN.{length-append}
+use lib.Seq.{length-take-le, take-append-seam}
 use denote.Ref.{now}
 use Rattle.line.specs.Comes.{setup-comes, refused-comes, event-comes}
 use borrow.Author.Needs.{needs}
@@ -23,6 +26,15 @@ refuse-requires c κs = search needs
 enum-known-asked-2 : tie.Need-enum-known-asked-2
 enum-known-asked-2 c = search needs
 
+data-of-requires : tie.Need-data-of-requires
+data-of-requires c κs = search needs
+
+array-share-prefix-carried : tie.Need-array-share-prefix-carried
+array-share-prefix-carried c = rw (c .data-of .ensures .0, c .data-of .ensures .1, length-append) (omega arith)
+
+slice-aggregate-take-event : tie.Need-slice-aggregate-take-event
+slice-aggregate-take-event c = sym (length-take-le _ _ (array-share-prefix-carried (c .before)))
+
 take-event-requires : tie.Need-take-event-requires
 take-event-requires c κs = search needs
 
@@ -45,10 +57,14 @@ same-length c = search needs
 
 returns-3 : tie.Need-returns-3
 returns-3 c =
-    let asked = c .before .before .before .before .before .before .before .before in
+    let took = c .before .before in
+    let carried = took .before .before .before in
+    let event = carried .before .before .before .before in
+    let asked = event .before .before in
     let given = asked .before .before .before .args in
-    let k = event-comes (given .session) (now (given .line)) (now (given .out)) _ (sym (asked .ask .ensures) ∙ c .before .before .before .before .before .before .asked2 .given .1) in
-    let t = c .before .before .take-event .ensures in
+    let k = event-comes (given .session) (now (given .line)) (now (given .out)) _ (sym (asked .ask .ensures) ∙ event .asked2 .given .1) in
+    let d = carried .data-of .ensures in
+    let t = rw (d .1, d .0, take-append-seam) at (took .take-event .ensures) in
     (t .0 ∙ sym (k .taken), t .1 ∙ sym (k .buffer))
 
 pub take-line-spec : {M : Type 1} → statement M
@@ -61,6 +77,9 @@ take-line-spec =
     enum-known-asked
     refuse-requires
     enum-known-asked-2
+    data-of-requires
+    array-share-prefix-carried
+    slice-aggregate-take-event
     take-event-requires
     returns
     returns-2

@@ -1,6 +1,6 @@
 use borrow.Author.Tests.{eq-eqb, ne-eqb}
 use borrow.Author.Needs.{needs}
-use Rattle.parse.specs.Parse.{readLine}
+use Rattle.parse.specs.Parse.{readBy, readLine}
 use Rattle.parse.proofs.read_line.Statement.{statement}
 use Rattle.parse.proofs.read_line.Tie as tie
 
@@ -11,26 +11,24 @@ returns : tie.Need-returns
 unfolding readLine
 returns c = rw (← c .before .count-fields .ensures, ne-eqb _ 3 (c .if1 .taken))
 
-field-requires : tie.Need-field-requires
-field-requires c κs = search needs
+two-of-requires : tie.Need-two-of-requires
+two-of-requires c κs = search needs
 
-hex-byte-requires : tie.Need-hex-byte-requires
-hex-byte-requires c κs = search needs
+enum-told : tie.Need-enum-told
+enum-told c = search needs
 
-field-requires-2 : tie.Need-field-requires-2
-field-requires-2 c κs = search needs
-
-hex-byte-requires-2 : tie.Need-hex-byte-requires-2
-hex-byte-requires-2 c κs = search needs
-
-read-by-requires : tie.Need-read-by-requires
-read-by-requires c κs = search needs
+enum-known-a : tie.Need-enum-known-a
+enum-known-a c = search needs
 
 returns-2 : tie.Need-returns-2
-unfolding readLine
+unfolding readLine readBy
 returns-2 c =
-    rw (← c .before .before .before .before .before .before .count-fields .ensures, eq-eqb _ 3 (c .before .before .before .before .before .if1 .left), ← c .before .before .before .before .field .ensures, ← c .before .before .before .hex-byte .ensures, ← c .before .before .field2 .ensures, ← c .before .hex-byte2 .ensures)
-    (c .read-by .ensures)
+    rw (← c .before .before .before .before .count-fields .ensures, eq-eqb _ 3 (c .before .before .before .if1 .left), ← c .before .before .two-of .ensures, c .enum-told .given .1)
+
+returns-3 : tie.Need-returns-3
+unfolding readLine readBy
+returns-3 c =
+    rw (← c .before .before .before .before .before .count-fields .ensures, eq-eqb _ 3 (c .before .before .before .before .if1 .left), ← c .before .before .before .two-of .ensures, c .before .a .given .1)
 
 pub read-line-spec : {M : Type 1} → statement M
 read-line-spec =
@@ -38,9 +36,8 @@ read-line-spec =
     (tie.spec
     count-fields-requires
     returns
-    field-requires
-    hex-byte-requires
-    field-requires-2
-    hex-byte-requires-2
-    read-by-requires
-    returns-2)
+    two-of-requires
+    enum-told
+    enum-known-a
+    returns-2
+    returns-3)

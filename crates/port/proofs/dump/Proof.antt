@@ -26,8 +26,7 @@ use denote.Builtin.{u8}
 use denote.Ref.{RefT, ShrRef, ptr-vals, shr-tells}
 use denote.Slice.{sliceVal, MutSlice, Room, finally, slice-vals, mut-slice-tells}
 use denote.Signature.{plain}
-use denote.Steps.{looks, shuts, owned, peeks, heard, nothing}
-use denote.Struct.Steps.{spelt}
+use denote.Steps.{shuts, owned, peeks, heard, nothing}
 use denote.Struct.Laws as LL
 use denote.Triple.Statement.{Contract, Triple}
 use denote.Triple.Call.{calls-at}
@@ -48,6 +47,7 @@ use Rattle.event.proofs.dump as callee
 use Rattle.event.proofs.dump.Symbol as callee-def
 use Rattle.event.proofs.dump.Symbol.{name as #callee}
 use Rattle.event.proofs.dump.Met as callee-thm
+use Rattle.port.proofs.Walk.{looks-struct}
 use Rattle.port.proofs.dump.Key.{name as #self}
 use Rattle.port.proofs.dump as self
 use Rattle.port.proofs.dump.Statement as stated
@@ -114,10 +114,8 @@ module _ {M : Type 1} (𝓤 : URA M) (H : Heap 𝓤) (A : Atoms 𝓤) (W : Given
         enter ! C Λ code.function (vptr b o ∷ so ∷ []) _ $
         alloc1 ! (λ l₀. alloc1 ! (λ l₁. alloc1 ! (λ l₂. alloc1 ! (λ l₃. alloc1 ! (λ l₄. alloc1 ! (λ l₅. alloc0 ! $ params1 ! $
         pass1 ! (init ! 8 refl (tt, tt)) $ pass1 ! (init ! 6 refl (tt, (tt, (record { fits = ro .0 }, tt)))) $ pass0 ! $
-        move ! (12 ∷ 13 ∷ []) $ looks ! tt (T.the-row) (Is (T.the-row)) (shows 𝓤 H A (T.the-row)) (LL.vals T.the-type T′.the-laws) (LL.tells T.the-type T′.the-laws) ((LL.copy T.the-type T′.the-copy) 𝓤 H A W) h b o (λ q′ vs.
-        spelt ! (T.the-row) (Is (T.the-row)) (shows 𝓤 H A (T.the-row)) (LL.vals T.the-type T′.the-laws) (LL.tells T.the-type T′.the-laws) q′ h vs b o $
+        move ! (12 ∷ 13 ∷ []) $ looks-struct ! tt T.the-type T′.the-laws (LL.copy T.the-type T′.the-copy 𝓤 H A W) h b o (λ q′ g.
         -- [a share of the chip's cell; what it owns; what shuts it; the fractured borrow; _5; …; _4; …; _3; …; _2; …; _1; …; _0; …; out; true; res; the other tokens]
-        move ! (1 ∷ []) $ peeks ! (T.the-row) (Is (T.the-row)) (shows 𝓤 H A (T.the-row)) h (mach ∷ []) (λ g. move ! (1 ∷ 0 ∷ []) $
         assigns ! (of-opd ! (load ! (from ! (hop ! (look ! 12 refl) (stop !))) (look-raw ! 0 refl))) (from ! (stop !)) (init ! 8 refl (LL.lawful T.the-type T′.the-laws 𝓤 H A W .typed h _ g .0)) $
         shuts ! tt (T.the-row) q′ h (mach ∷ []) b o $
         -- [the token; the fractured borrow; _5; …; _4; …; _3; …; _2; …; _1; …; _0; …; out; true; res; the other tokens]
@@ -135,7 +133,7 @@ module _ {M : Type 1} (𝓤 : URA M) (H : Heap 𝓤) (A : Atoms 𝓤) (W : Given
         land ! (from ! (stop !)) (init ! 16 refl (LL.lawful D.the-type D′.the-laws 𝓤 H A W .typed r _ is .0)) $
         returns ! (look ! 16 refl) $ forget ! 6 refl $ forget ! 8 refl $ forget ! 10 refl $ forget ! 12 refl $ forget ! 14 refl $ forget ! 16 refl $
         move ! (16 ∷ 17 ∷ []) $ free1 ! $ move ! (14 ∷ 15 ∷ []) $ free1 ! $ move ! (12 ∷ 13 ∷ []) $ free1 ! $ move ! (10 ∷ 11 ∷ []) $ free1 ! $ move ! (8 ∷ 9 ∷ []) $ free1 ! $ move ! (6 ∷ 7 ∷ []) $ free1 ! $ free0 ! $
-        keep ! (4 ∷ 1 ∷ 7 ∷ 5 ∷ 2 ∷ 0 ∷ []) $ by ! (exits r v (zs .1 .0) e l)))))))))))))))
+        keep ! (4 ∷ 1 ∷ 7 ∷ 5 ∷ 2 ∷ 0 ∷ []) $ by ! (exits r v (zs .1 .0) e l))))))))))))))
 
 module _ {M : Type 1} (𝓤 : URA M) (H : Heap 𝓤) (A : Atoms 𝓤) (W : Given 𝓤 H A) (at-mem : Memory → SProp 𝓤) (run : Routine → Fun 𝓤) where
   self-walks : (C : Calls 𝓤 H) (Λ : Loops 𝓤 H) → FmC 𝓤 H (W .laws) C → Triple 𝓤 (C #callee) (Callee 𝓤 H A at-mem run) → Walks 𝓤 H A self.ended stayed (WpFn 𝓤 H C Λ code.function) (self.clauses 𝓤 H A at-mem run)

@@ -27,8 +27,7 @@ use denote.Plain.{uint-lawful, uint-makes}
 use denote.Builtin.{u8}
 use denote.Ref.{RefT, MutRef, ptr-vals, mut-tells}
 use denote.Signature.{plain}
-use denote.Steps.{only, opens, closes, owned, peeks, heard, nothing}
-use denote.Struct.Steps.{spelt}
+use denote.Steps.{only, closes, owned, peeks, heard, nothing}
 use denote.Struct.Struct as struct
 use denote.Struct.Declared as declared
 use denote.Struct.Laws as LL
@@ -55,6 +54,7 @@ use Rattle.state.proofs.power_again.Symbol as callee-def
 use Rattle.state.proofs.power_again.Symbol.{name as #callee}
 use Rattle.state.proofs.power_again.Met as callee-thm
 use Rattle.port.proofs.Part.{look-part}
+use Rattle.port.proofs.Walk.{opens-struct}
 use Rattle.port.proofs.power_on.Key.{name as #self}
 use Rattle.port.proofs.power_on as self
 use Rattle.port.proofs.power_on.Statement as stated
@@ -136,9 +136,8 @@ module _ {M : Type 1} (𝓤 : URA M) (H : Heap 𝓤) (A : Atoms 𝓤) (W : Given
         enter ! C Λ code.function (vptr b o ∷ word ∷ []) _ $
         alloc1 ! (λ l₀. alloc1 ! (λ l₁. alloc1 ! (λ l₂. alloc1 ! (λ l₃. alloc1 ! (λ l₄. alloc0 ! $ params1 ! $
         pass1 ! (init ! 6 refl (tt, tt)) $ pass1 ! (init ! 4 refl (LL.lawful S.the-type S′.the-laws 𝓤 H A W .typed s _ gs .0)) $ pass0 ! $
-        move ! (10 ∷ 11 ∷ 12 ∷ []) $ opens ! tt (T.the-row) {h = h} b o (λ vs. spelt ! (T.the-row) (Is (T.the-row)) (shows 𝓤 H A (T.the-row)) (LL.vals T.the-type T′.the-laws) (LL.tells T.the-type T′.the-laws) fullShare h vs b o $
+        move ! (10 ∷ 11 ∷ 12 ∷ []) $ opens-struct ! tt T.the-type T′.the-laws h b o (λ g.
         -- [the chip's cell; what it owns; the open borrow; obs; auth; _4; …; _3; …; _2; …; _1; …; _0; …; the setup; true; true]
-        move ! (1 ∷ []) $ peeks ! (T.the-row) (Is (T.the-row)) (shows 𝓤 H A (T.the-row)) h (mach ∷ []) (λ g. move ! (1 ∷ 0 ∷ []) $
         assigns ! (of-opd ! (load ! (from ! (hop ! (look ! 11 refl) (stop !))) (look-raw ! 0 refl))) (from ! (stop !)) (init ! 5 refl (LL.lawful T.the-type T′.the-laws 𝓤 H A W .typed h _ g .0)) $
         move ! (1 ∷ 15 ∷ []) $ join ! $ move ! (15 ∷ 0 ∷ []) $ use2 W (raw (Callee 𝓤 H A at-mem run .pre to-callee)) goes-in $
         -- [the callee's pre; the chip's cell; the open borrow; obs; auth; _4; …; _3; …; _2; …; _1; …; _0; …; true]
@@ -158,7 +157,7 @@ module _ {M : Type 1} (𝓤 : URA M) (H : Heap 𝓤) (A : Atoms 𝓤) (W : Given
         -- [obs; the borrow; the token; what it gave owns; true; _4; …; _3; …; _2; …; _1; …; _0; …; true]
         returns ! (look ! 13 refl) $ forget ! 5 refl $ forget ! 7 refl $ forget ! 9 refl $ forget ! 11 refl $ forget ! 13 refl $
         move ! (13 ∷ 14 ∷ []) $ free1 ! $ move ! (11 ∷ 12 ∷ []) $ free1 ! $ move ! (9 ∷ 10 ∷ []) $ free1 ! $ move ! (7 ∷ 8 ∷ []) $ free1 ! $ move ! (5 ∷ 6 ∷ []) $ free1 ! $ free0 ! $
-        keep ! (0 ∷ 1 ∷ 2 ∷ []) $ by ! (exits r _ (fields .1 .0) e))))))))))))))
+        keep ! (0 ∷ 1 ∷ 2 ∷ []) $ by ! (exits r _ (fields .1 .0) e)))))))))))))
 
 module _ {M : Type 1} (𝓤 : URA M) (H : Heap 𝓤) (A : Atoms 𝓤) (W : Given 𝓤 H A) (at-mem : Memory → SProp 𝓤) (run : Routine → Fun 𝓤) where
   self-walks : (C : Calls 𝓤 H) (Λ : Loops 𝓤 H) → FmC 𝓤 H (W .laws) C → Triple 𝓤 (C #callee) (Callee 𝓤 H A at-mem run) → Walks 𝓤 H A self.ended stayed (WpFn 𝓤 H C Λ code.function) (self.clauses 𝓤 H A at-mem run)

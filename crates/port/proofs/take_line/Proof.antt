@@ -17,7 +17,7 @@ use prog.Wp.{Heap, Calls, Loops, WpFn, Tables}
 use ghost.Atoms.{Atoms}
 use contract.Monad.{Fun, fact}
 use contract.Running.{givenOf, tables, tablesOf}
-use types.Kit.{Given, Item, ⋆, ‵, raw, _⊛_, some, later, _$_, _∵_, !, qed, by, move, keep, drop, use1, use2, split, join, pick, rewrite, fsplit, fsplit3, fjoin, fjoin3, feqI, feqL, suffices, frame, await, done}
+use types.Kit.{Given, Item, ⋆, ‵, raw, _⊛_, some, later, _$_, _∵_, !, qed, by, move, keep, drop, use1, use3, split, join, pick, rewrite, fsplit, fsplit3, fjoin, fjoin3, feqI, feqL, suffices, frame, await, done}
 use types.Run.{look, look-raw, init, store-raw, forget, stop, hop, fld, from, load, addr, of-opd, assigns, and-then, no-more, land, returns, enter, alloc1, alloc0, params1, pass1, pass0, free1, free0}
 use types.Part.{agg, whole, sub, look-in}
 use types.SemTy.{Body}
@@ -29,8 +29,7 @@ use denote.Builtin.{u8}
 use denote.Ref.{RefT, MutRef, ptr-vals, mut-tells}
 use denote.Slice.{sliceVal, MutSlice, ShrSlice, Room, finally, slice-vals, mut-slice-tells, shr-slice-tells, shr-slice-copy}
 use denote.Signature.{plain}
-use denote.Steps.{only, opens, closes, owned, peeks, heard, nothing}
-use denote.Struct.Steps.{spelt}
+use denote.Steps.{only, closes, owned, peeks, heard, nothing}
 use denote.Struct.Struct as struct
 use denote.Struct.Declared as declared
 use denote.Struct.Laws as LL
@@ -56,6 +55,7 @@ use Rattle.line.proofs.take_line.Symbol as callee-def
 use Rattle.line.proofs.take_line.Symbol.{name as #callee}
 use Rattle.line.proofs.take_line.Met as callee-thm
 use Rattle.port.proofs.Part.{look-part}
+use Rattle.port.proofs.Walk.{opens-struct, three-in}
 use Rattle.port.proofs.take_line.Key.{name as #self}
 use Rattle.port.proofs.take_line as self
 use Rattle.port.proofs.take_line.Statement as stated
@@ -135,11 +135,6 @@ module _ {M : Type 1} (𝓤 : URA M) (H : Heap 𝓤) (A : Atoms 𝓤) (W : Given
   abbrev to-callee : Callee 𝓤 H A at-mem run .Ghost
   to-callee = (((κ₁, (κ₂, tt)), (q₁, (q₂, tt)), tt, (h, (xl, (xo, tt))), (mach ∷ [], (sl ∷ [], (so ∷ [], tt)))), tt)
 
-  goes-in : ent 𝓤 (⋆ 𝓤 H A (toks ∷ (‵ (T.the-row .own h (mach ∷ [])) ⊛ (‵ OL ⊛ ‵ OO)) ∷ [])) (Callee 𝓤 H A at-mem run .pre to-callee)
-  goes-in =
-      qed W (toks ∷ (‵ (T.the-row .own h (mach ∷ [])) ⊛ (‵ OL ⊛ ‵ OO)) ∷ []) ∵
-      move ! (1 ∷ []) $ split ! $ move ! (1 ∷ []) $ split ! $ nothing ! $ move ! (2 ∷ 0 ∷ []) $ fjoin ! $ move ! (1 ∷ 0 ∷ []) $ fjoin ! $ move ! (1 ∷ 0 ∷ []) $ fjoin ! $ move ! (1 ∷ 0 ∷ []) $ join ! $ frame ! $ done !
-
   module _ (C : Calls 𝓤 H) (Λ : Loops 𝓤 H) (fm : FmC 𝓤 H (W .laws) C) (known : Triple 𝓤 (C #callee) (Callee 𝓤 H A at-mem run)) where
     walk : Room u8 (length (xl .now)) → Room u8 (length (xo .now)) → ent 𝓤 (onEntry 𝓤 H A self.signature (κ, (κ₁, (κ₂, tt))) (q, (q₁, (q₂, tt))) x at) (WpFn 𝓤 H C Λ code.function (vptr b o ∷ sl ∷ so ∷ []) Post)
     walk rl ro =
@@ -149,13 +144,12 @@ module _ {M : Type 1} (𝓤 : URA M) (H : Heap 𝓤) (A : Atoms 𝓤) (W : Given
         move ! (4 ∷ 5 ∷ 6 ∷ []) $ enter ! C Λ code.function (vptr b o ∷ sl ∷ so ∷ []) _ $
         alloc1 ! (λ l₀. alloc1 ! (λ l₁. alloc1 ! (λ l₂. alloc1 ! (λ l₃. alloc1 ! (λ l₄. alloc1 ! (λ l₅. alloc1 ! (λ l₆. alloc1 ! (λ l₇. alloc0 ! $ params1 ! $
         pass1 ! (init ! 12 refl (tt, tt)) $ pass1 ! (init ! 10 refl (tt, (tt, (record { fits = rl .0 }, tt)))) $ pass1 ! (init ! 8 refl (tt, (tt, (record { fits = ro .0 }, tt)))) $ pass0 ! $
-        move ! (16 ∷ 17 ∷ 18 ∷ []) $ opens ! tt (T.the-row) {h = h} b o (λ vs. spelt ! (T.the-row) (Is (T.the-row)) (shows 𝓤 H A (T.the-row)) (LL.vals T.the-type T′.the-laws) (LL.tells T.the-type T′.the-laws) fullShare h vs b o $
+        move ! (16 ∷ 17 ∷ 18 ∷ []) $ opens-struct ! tt T.the-type T′.the-laws h b o (λ g.
         -- [the session's cell; what it owns; the open borrow; obs; auth; _7; …; _6; …; _5; …; _4; …; _3; …; _2; …; _1; …; _0; …; line; line; out; true; the other tokens]
-        move ! (1 ∷ []) $ peeks ! (T.the-row) (Is (T.the-row)) (shows 𝓤 H A (T.the-row)) h (mach ∷ []) (λ g. move ! (1 ∷ 0 ∷ []) $
         assigns ! (of-opd ! (load ! (from ! (hop ! (look ! 17 refl) (stop !))) (look-raw ! 0 refl))) (from ! (stop !)) (init ! 9 refl (LL.lawful T.the-type T′.the-laws 𝓤 H A W .typed h _ g .0)) $
         assigns ! (addr ! (from ! (fld ! refl (hop ! (look-in ! 13 (sub ! 0 refl (whole !))) (stop !))))) (from ! (stop !)) (init ! 7 refl (tt, tt)) $
         assigns ! (agg ! (and-then ! (load ! (from ! (stop !)) (look ! 7 refl)) (and-then ! (load ! (from ! (fld ! refl (stop !))) (look-in ! 13 (sub ! 1 refl (whole !)))) (no-more !)))) (from ! (stop !)) (init ! 5 refl (tt, (tt, (record { fits = ro .0 }, tt)))) $
-        move ! (21 ∷ 23 ∷ []) $ join ! $ move ! (2 ∷ 0 ∷ []) $ join ! $ move ! (23 ∷ 0 ∷ []) $ use2 W (raw (Callee 𝓤 H A at-mem run .pre to-callee)) goes-in $
+        move ! (21 ∷ 23 ∷ []) $ join ! $ move ! (2 ∷ 0 ∷ 24 ∷ []) $ use3 W (raw (Callee 𝓤 H A at-mem run .pre to-callee)) (three-in W (T.the-row .own h (mach ∷ [])) OL OO toks) $
         -- [the callee's pre; the session's cell; the open borrow; obs; auth; _7; …; _6; …; _5; …; _4; …; _3; …; _2; …; _1; …; _0; …; line; true]
         calls-at ! fm (Callee 𝓤 H A at-mem run) known to-callee (and-then ! (load ! (from ! (stop !)) (look ! 9 refl)) (and-then ! (load ! (from ! (stop !)) (look ! 15 refl)) (and-then ! (load ! (from ! (stop !)) (look ! 5 refl)) (no-more !)))) (λ v.
         use1 W (later (some (λ (r : Taken). (toks ⊛ ‵ (N.the-row .own r (v ∷ []))) ⊛ raw (ensured 𝓤 H A callee.ended (callee.clauses 𝓤 H A at-mem run) (κ₁, (κ₂, tt)) (h, (xl, (xo, tt))) tt r)))) (id⊢ 𝓤 _) $ await ! tt $ pick ! (λ r.
@@ -174,7 +168,7 @@ module _ {M : Type 1} (𝓤 : URA M) (H : Heap 𝓤) (A : Atoms 𝓤) (W : Given
         -- [obs; the borrow; the token; what the answer owns; the tokens; the last list; true; _7; …; _6; …; _5; …; _4; …; _3; …; _2; …; _1; …; _0; …; line; true]
         returns ! (look ! 21 refl) $ forget ! 7 refl $ forget ! 9 refl $ forget ! 11 refl $ forget ! 13 refl $ forget ! 15 refl $ forget ! 17 refl $ forget ! 19 refl $ forget ! 21 refl $
         move ! (21 ∷ 22 ∷ []) $ free1 ! $ move ! (19 ∷ 20 ∷ []) $ free1 ! $ move ! (17 ∷ 18 ∷ []) $ free1 ! $ move ! (15 ∷ 16 ∷ []) $ free1 ! $ move ! (13 ∷ 14 ∷ []) $ free1 ! $ move ! (11 ∷ 12 ∷ []) $ free1 ! $ move ! (9 ∷ 10 ∷ []) $ free1 ! $ move ! (7 ∷ 8 ∷ []) $ free1 ! $ free0 ! $
-        keep ! (0 ∷ 1 ∷ 2 ∷ 4 ∷ 5 ∷ 7 ∷ []) $ by ! (exits r _ (fields .1 .0) (zs .1 .1 .0) e l)))))))))))))))))
+        keep ! (0 ∷ 1 ∷ 2 ∷ 4 ∷ 5 ∷ 7 ∷ []) $ by ! (exits r _ (fields .1 .0) (zs .1 .1 .0) e l))))))))))))))))
 
 module _ {M : Type 1} (𝓤 : URA M) (H : Heap 𝓤) (A : Atoms 𝓤) (W : Given 𝓤 H A) (at-mem : Memory → SProp 𝓤) (run : Routine → Fun 𝓤) where
   self-walks : (C : Calls 𝓤 H) (Λ : Loops 𝓤 H) → FmC 𝓤 H (W .laws) C → Triple 𝓤 (C #callee) (Callee 𝓤 H A at-mem run) → Walks 𝓤 H A self.ended stayed (WpFn 𝓤 H C Λ code.function) (self.clauses 𝓤 H A at-mem run)

@@ -1,14 +1,11 @@
 -- `settings::entries_of` meets its contract: at turn k the walk stands where number k begins, and k entries are filled in. Assumes nothing.
-use mathlib.Core.Path.{_≡_, ap, _∙_}
 use mathlib.Core.List.{List}
-use Prim.Native.Nat.{ℕ, suc, _+_, _-_, _≤_}
-use native.Mathlib.Nat.{add-zero, zero-add}
+use Prim.Native.Nat.{ℕ, suc, _-_}
+use native.Mathlib.Nat.{suc-add}
 use native.Mathlib.Omega.{arith}
-use lib.ListN.{length, drop}
-use denote.Ref.{now}
 use borrow.Author.Needs.{needs}
-use Rattle.text.specs.Fields.{fieldAt}
 use Rattle.text.specs.Number.{saturated}
+use Rattle.text.specs.Walk.{FieldsFrom, from-start, from-field, from-next}
 use Rattle.settings.specs.declared.Entry.{Entry}
 use Rattle.settings.specs.Places.{NUMBERS}
 use Rattle.settings.specs.Settings.{settingAt}
@@ -20,12 +17,8 @@ use Rattle.settings.proofs.entries_of.Tie as tie
 abbrev entry : List ℕ → ℕ → Entry
 entry s k = record { number = saturated (settingAt s k) }
 
--- what is left of the line at turn k begins with number k
-abbrev Stands : List ℕ → ℕ → ℕ → Type 0
-Stands s at k = (j : ℕ) → fieldAt (drop at s) j ≡ fieldAt s (suc (j + k))
-
 abbrev Inv-loop : tie.InvT-loop
-Inv-loop line entries₀ at₀ k₀ entries at k = (at ≤ length line) × Stands line at k × Filled (entry line) entries₀ entries k
+Inv-loop line entries₀ at₀ k₀ entries at k = FieldsFrom line at (suc k) × Filled (entry line) entries₀ entries k
 
 abbrev μ-loop : tie.MeasureT-loop
 μ-loop line entries₀ at₀ k₀ entries at k = NUMBERS - k
@@ -34,7 +27,7 @@ next-field-requires : tie.Need-next-field-requires Inv-loop μ-loop
 next-field-requires c κs = search needs
 
 loop-holds : tie.Need-loop-holds Inv-loop μ-loop
-loop-holds c = (c .next-field .ensures .0, λ j. rw add-zero (c .next-field .ensures .1 j), filled-none)
+loop-holds c = (from-next (from-start _) (c .next-field .ensures .0) (c .next-field .ensures .1), filled-none)
 
 number-from-requires : tie.Need-number-from-requires Inv-loop μ-loop
 number-from-requires c κs = search needs
@@ -57,19 +50,14 @@ loop-less c = omega arith
 loop-again : tie.Need-loop-again Inv-loop μ-loop
 unfolding settingAt
 loop-again c =
-    let at = c .before .before .before in
-    let s = now (at .before .before .before .args .line) in
-    let k = at .loop .k in
-    let step : (j : ℕ) → suc (suc j + k) ≡ suc (j + (k + 1)) = λ j. omega arith in
-    let first : fieldAt (drop (at .loop .at) s) 0 ≡ fieldAt s (suc k) = at .loop .inv .1 0 ∙ rw zero-add in (
-      c .next-field2 .ensures .0,
-      λ j. c .next-field2 .ensures .1 j ∙ at .loop .inv .1 (suc j) ∙ ap (fieldAt s) (step j),
-      filled-more (at .loop .inv .2) (omega arith) (rw (c .before .number-from .ensures, first)),
+    let at = c .before .before .before in (
+      rw (← suc-add) (from-next (at .loop .inv .0) (c .next-field2 .ensures .0) (c .next-field2 .ensures .1)),
+      filled-more (at .loop .inv .1) (omega arith) (rw (c .before .number-from .ensures, from-field (at .loop .inv .0))),
     )
 
 returns : tie.Need-returns Inv-loop μ-loop
 unfolding entriesOf
-returns c = filled-all (c .before .loop .inv .2) (omega arith)
+returns c = filled-all (c .before .loop .inv .1) (omega arith)
 
 pub entries-of-spec : {M : Type 1} → statement M
 entries-of-spec =

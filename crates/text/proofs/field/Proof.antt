@@ -5,7 +5,7 @@ use denote.Ref.{now}
 use borrow.Author.Needs.{needs}
 use Rattle.laws.specs.Left.{left-part}
 use Rattle.text.specs.Fields.{fieldAt, fieldsOf}
-use Rattle.text.specs.Walk.{first-take}
+use Rattle.text.specs.Walk.{first-take, from-field}
 use Rattle.text.proofs.field.Statement.{statement}
 use Rattle.text.proofs.field.Tie as tie
 
@@ -32,7 +32,7 @@ unfolding fieldAt fieldsOf
 returns c =
     let s = now (c .before .before .before .before .before .args .s) in
     let a = c .before .before .before .field-start in
-    rw (c .before .width .ensures .1, left-part s (a .result), ← first-take (drop (a .result) s)) (a .ensures .1)
+    rw (c .before .width .ensures .1, left-part s (a .result), ← first-take (drop (a .result) s)) (from-field (a .ensures))
 
 pub field-spec : {M : Type 1} → statement M
 field-spec =

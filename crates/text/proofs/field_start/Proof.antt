@@ -1,7 +1,8 @@
--- `text::field_start` meets its contract: field `left` of what is left is field k of the line. Assumes nothing.
-use mathlib.Core.Path.{_≡_, _∙_}
+-- `text::field_start` meets its contract: the fields from field `left` on of what is left are those from field k on of the line. Assumes nothing.
+use mathlib.Core.Path.{_≡_, sym, _∙_}
 use mathlib.Core.Logic.{⊎-elim}
-use Prim.Native.Nat.{_-_, _≤_, _<_}
+use Prim.Native.Nat.{ℕ, _+_, _-_, _≤_, _<_}
+use native.Mathlib.Nat.{zero-add}
 use native.Mathlib.Omega.{arith}
 use lib.ListN.{length, drop}
 use denote.Ref.{now}
@@ -12,7 +13,7 @@ use Rattle.text.proofs.field_start.Statement.{statement}
 use Rattle.text.proofs.field_start.Tie as tie
 
 abbrev Inv-loop : tie.InvT-loop
-Inv-loop s k left₀ i₀ left i = (i ≤ length s) × (fieldAt (drop i s) left ≡ fieldAt s k)
+Inv-loop s k left₀ i₀ left i = (i ≤ length s) × ((j : ℕ) → fieldAt (drop i s) (left + j) ≡ fieldAt s (k + j))
 
 abbrev μ-loop : tie.MeasureT-loop
 μ-loop s k left₀ i₀ left i = length s - i
@@ -21,7 +22,9 @@ loop-holds : tie.Need-loop-holds Inv-loop μ-loop
 loop-holds c = search needs
 
 returns : tie.Need-returns Inv-loop μ-loop
-returns c = (omega arith, rw (c .if1 .taken) at (c .before .before .loop .inv .1))
+returns c =
+    let at = c .before .before in
+    record { within = omega arith; left = λ j. rw (zero-add j) at (rw (c .if1 .taken) at (at .loop .inv .1 j)) }
 
 shared-slice-read-if2 : tie.Need-shared-slice-read-if2 Inv-loop μ-loop
 shared-slice-read-if2 c = omega arith
@@ -43,9 +46,11 @@ loop-again c =
     let more = c .before .before .before .loop-test .taken in
     let some : 0 < at .loop .left = omega arith in (
       omega arith,
-      ⊎-elim
-          (λ w. cc (field-left-tab s i more (w .0 .taken) (at .loop .left) some))
-          (λ w. cc (field-left-byte s i more (w .0 .left) (at .loop .left) some))
+      λ j. ⊎-elim
+          (λ w.
+          let e : c .if2 .left + j ≡ at .loop .left + j - 1 = omega (arith, w .1) in
+          rw e (sym (field-left-tab s i more (w .0 .taken) (at .loop .left + j) (omega arith)) ∙ at .loop .inv .1 j))
+          (λ w. rw (w .1) (sym (field-left-byte s i more (w .0 .left) (at .loop .left + j) (omega arith)) ∙ at .loop .inv .1 j))
           (c .if2 .came),
     )
 
@@ -53,7 +58,8 @@ returns-2 : tie.Need-returns-2 Inv-loop μ-loop
 returns-2 c =
     let s = now (c .before .before .args .s) in
     let i = c .before .loop .i in
-    (omega arith, field-left-none s i (c .loop-test .left) (c .before .loop .left) ∙ c .before .loop .inv .1)
+    let none = field-left-none s i (c .loop-test .left) in
+    record { within = omega arith; left = λ j. sym (none j) ∙ none (c .before .loop .left + j) ∙ c .before .loop .inv .1 j }
 
 pub field-start-spec : {M : Type 1} → statement M
 field-start-spec =

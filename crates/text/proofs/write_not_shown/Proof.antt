@@ -1,12 +1,12 @@
 use native.Mathlib.Omega.{arith}
 use borrow.Author.Needs.{needs}
-use Rattle.text.specs.Answers.{digitOf, noByteText}
+use Rattle.text.specs.Answers.{ROOM, digitOf, noByteText}
 use Rattle.text.specs.Written.{behind, no-room, with-room, no-byte-length}
 use Rattle.text.proofs.write_not_shown.Statement.{statement}
 use Rattle.text.proofs.write_not_shown.Tie as tie
 
 returns : tie.Need-returns
-returns c = no-room _ _ (c .if1 .taken)
+returns c = no-room ROOM _ _ (c .if1 .taken)
 
 put-head-requires : tie.Need-put-head-requires
 put-head-requires c κs = search needs
@@ -34,7 +34,7 @@ returns-2 c =
     let first = second .before .before .before .before in
     let tab = first .before .before .before .before in
     let head = tab .before .before .before .before in
-    with-room (head .before .before .if1 .left) (omega (arith, no-byte-length))
+    with-room ROOM (head .before .before .if1 .left) (omega (arith, no-byte-length (head .before .before .before .before .args .letter)))
     (behind (head .put-head .ensures) (behind (tab .put .ensures) (behind (first .put2 .ensures) (behind (second .put3 .ensures) (feed .put4 .ensures)))))
 
 pub write-not-shown-spec : {M : Type 1} → statement M

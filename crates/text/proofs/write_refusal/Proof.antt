@@ -1,11 +1,11 @@
 use borrow.Author.Needs.{needs}
-use Rattle.text.specs.Answers.{refusalText}
+use Rattle.text.specs.Answers.{ROOM, refusalText}
 use Rattle.text.specs.Written.{behind, no-room, with-room, refusal-length}
 use Rattle.text.proofs.write_refusal.Statement.{statement}
 use Rattle.text.proofs.write_refusal.Tie as tie
 
 returns : tie.Need-returns
-returns c = no-room _ _ (c .if1 .taken)
+returns c = no-room ROOM _ _ (c .if1 .taken)
 
 put-requires : tie.Need-put-requires
 put-requires c κs = search needs
@@ -30,7 +30,7 @@ returns-2 c =
     let number = refusal .before .before .before .before in
     let letter = number .before .before .before .before in
     let a = letter .before .before .before .before .args in
-    with-room (letter .before .before .if1 .left) (refusal-length (a .number) (a .refusal))
+    with-room ROOM (letter .before .before .if1 .left) (refusal-length (a .number) (a .refusal))
     (behind (letter .put .ensures) (behind (number .put-long .ensures .0) (behind (refusal .put-column .ensures .0) (feed .put2 .ensures))))
 
 pub write-refusal-spec : {M : Type 1} → statement M

@@ -1,12 +1,12 @@
 use native.Mathlib.Omega.{arith}
 use borrow.Author.Needs.{needs}
-use Rattle.text.specs.Answers.{digitOf, byteText}
+use Rattle.text.specs.Answers.{ROOM, digitOf, byteText}
 use Rattle.text.specs.Written.{behind, no-room, with-room, byte-length}
 use Rattle.text.proofs.write_shown.Statement.{statement}
 use Rattle.text.proofs.write_shown.Tie as tie
 
 returns : tie.Need-returns
-returns c = no-room _ _ (c .if1 .taken)
+returns c = no-room ROOM _ _ (c .if1 .taken)
 
 put-head-requires : tie.Need-put-head-requires
 put-head-requires c κs = search needs
@@ -26,7 +26,7 @@ returns-2 c =
     let feed = c .before .before in
     let hex = feed .before .before .before .before in
     let head = hex .before .before .before .before in
-    with-room (head .before .before .if1 .left) (omega (arith, byte-length (head .before .before .before .before .args .byte)))
+    with-room ROOM (head .before .before .if1 .left) (omega (arith, byte-length (head .before .before .before .before .args .byte)))
     (behind (head .put-head .ensures) (behind (hex .put-hex .ensures .0) (feed .put .ensures)))
 
 pub write-shown-spec : {M : Type 1} → statement M

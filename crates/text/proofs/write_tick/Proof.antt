@@ -1,12 +1,12 @@
 use native.Mathlib.Omega.{arith}
 use borrow.Author.Needs.{needs}
-use Rattle.text.specs.Answers.{tickText}
+use Rattle.text.specs.Answers.{ROOM, tickText}
 use Rattle.text.specs.Written.{behind, no-room, with-room, tick-length}
 use Rattle.text.proofs.write_tick.Statement.{statement}
 use Rattle.text.proofs.write_tick.Tie as tie
 
 returns : tie.Need-returns
-returns c = no-room _ _ (c .if1 .taken)
+returns c = no-room ROOM _ _ (c .if1 .taken)
 
 put-head-requires : tie.Need-put-head-requires
 put-head-requires c κs = search needs
@@ -44,7 +44,7 @@ returns-2 c =
     let head = duty1 .before .before .before .before in
     let a = head .before .before .before .before .args in
     let f = head .before .before .before .before .fits in
-    with-room (head .before .before .if1 .left)
+    with-room ROOM (head .before .before .if1 .left)
     (tick-length (a .alert) (a .duty1) (a .duty2) (a .output1) (a .output2) (a .errors) (omega (arith, f .duty1)) (omega (arith, f .duty2)) (omega (arith, f .output1)) (omega (arith, f .output2)))
     (behind (head .put-head .ensures) (behind (duty1 .put-column .ensures .0) (behind (duty2 .put-column2 .ensures .0) (behind (output1 .put-column3 .ensures .0) (behind (output2 .put-column4 .ensures .0) (behind (errors .put-long .ensures .0) (feed .put .ensures)))))))
 
