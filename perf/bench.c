@@ -1,5 +1,5 @@
-// The bench's job as a plain C program, written from document 01 and the data sheet's register list for comparison: same input, same output.
-// It shares nothing with the Rattle sources. usage: bench < session
+// The bench's job as a plain C program, written from documents 01 and 02 and the data sheet's register list for comparison: same input,
+// same output. It shares nothing with the Rattle sources. usage: bench < session
 #include <stdint.h>
 #include <stdio.h>
 #include <string.h>
@@ -195,6 +195,19 @@ static int read_register(const struct chip *c, int a)
     return c->reg[a];
 }
 
+// the fixed blocks, commands F2h to FDh
+static const struct block {
+    uint8_t first, count;
+} blocks[] = {
+    {0x40, 8}, {0x48, 8}, {0x50, 6}, {0x56, 16}, {0x67, 4}, {0x6E, 8}, {0x78, 12}, {0x90, 32}, {0xB4, 8}, {0xC8, 8}, {0xD0, 16}, {0xE5, 9},
+};
+
+// the block that a transaction is for, or NULL if the address or the command is not acknowledged
+static const struct block *transact_block(struct chip *c, int address, int command)
+{
+    return transact(c, address) && command >= 0xF2 && command <= 0xFD ? &blocks[command - 0xF2] : NULL;
+}
+
 static void reset_pin(struct chip *c)
 {
     c->reg[0xE3] = (c->reg[0xE3] & ~0x02) | 0x04;
@@ -367,10 +380,25 @@ static void put_number(unsigned long n)
     while (k) put_char(d[--k]);
 }
 
-// takes a line and prints its answer, or gives its refusal
-static int take_line(struct chip *c, int *begun, const unsigned char *line, int len)
+static void put_hex(int b)
+{
+    put_char('\t');
+    put_char("0123456789ABCDEF"[b >> 4]);
+    put_char("0123456789ABCDEF"[b & 15]);
+}
+
+static void put_no_byte(void)
+{
+    put_char('\t');
+    put_char('-');
+    put_char('-');
+}
+
+// takes a line and prints its answer, or gives its refusal; called and not inlined it would cost nine instructions a line more
+static inline __attribute__((always_inline)) int take_line(struct chip *c, int *begun, const unsigned char *line, int len)
 {
     const unsigned char *at = line + 1;
+    const struct block *block;
     int a, r, b, i, v;
     if (len > 512) return 4;
     switch (line[0]) {
@@ -438,12 +466,42 @@ static int take_line(struct chip *c, int *begun, const unsigned char *line, int 
         v = transact(c, a);
         put_char('R');
         put_number(v);
-        put_char('\t');
-        b = v ? read_register(c, r) : 0;
-        put_char(v ? "0123456789ABCDEF"[b >> 4] : '-');
-        put_char(v ? "0123456789ABCDEF"[b & 15] : '-');
+        if (v) put_hex(read_register(c, r));
+        else put_no_byte();
         put_char('\n');
         break;
+    case 'G':
+        if ((a = hex_byte(&at)) == WRONG || (r = hex_byte(&at)) == WRONG || *at != '\n') return 4;
+        if (a > 0x7F) return 2;
+        block = transact_block(c, a, r);
+        put_char('G');
+        put_number(block != NULL);
+        if (block) {
+            put_hex(block->count);
+            for (i = 0; i < block->count; i++) put_hex(read_register(c, block->first + i));
+        } else {
+            put_no_byte();
+        }
+        put_char('\n');
+        break;
+    case 'P': {
+        uint8_t bytes[32];
+        int n;
+        if ((a = hex_byte(&at)) == WRONG || (r = hex_byte(&at)) == WRONG || (n = hex_byte(&at)) == WRONG || n > 32) return 4;
+        for (i = 0; i < n; i++) {
+            if ((b = hex_byte(&at)) == WRONG) return 4;
+            bytes[i] = b;
+        }
+        if (*at != '\n') return 4;
+        if (a > 0x7F) return 2;
+        block = transact_block(c, a, r);
+        v = block != NULL && n == block->count;
+        for (i = 0; v && i < n; i++) write_register(c, block->first + i, bytes[i]);
+        put_char('P');
+        put_number(v);
+        put_char('\n');
+        break;
+    }
     default:
         return 4;
     }

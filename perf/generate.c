@@ -1,6 +1,7 @@
-// Writes a session for the bench: usage: generate board | generate session SEED
-// board: a board's forty minutes, 48,000 ticks, each after five temperatures, sixteen voltages, four fan counts and some bus reads, with a
-// block of limits at the start. session SEED: a short session, valid or damaged, that the seed decides.
+// Writes a session for the bench: usage: generate board | generate session SEED | generate base SEED
+// board: a board's forty minutes, 48,000 ticks, each after five temperatures, sixteen voltages, four fan counts and some bus reads, its
+// limits written first. session SEED: a session, valid or damaged, most often a short one, that the seed decides. base SEED: one with the letters
+// of document 01 alone. The board and the base sessions never change, so that counts made on them can be held against each other.
 #include <stdint.h>
 #include <stdio.h>
 #include <stdlib.h>
@@ -8,6 +9,7 @@
 
 static uint64_t state;
 
+// The numbers come in the order of the text: no expression asks for two whose order C leaves open.
 static uint32_t next(void)
 {
     state = state * 6364136223846793005u + 1442695040888963407u;
@@ -65,8 +67,9 @@ static int some_register(void) { return one_in(3) ? below(256) : telling[below(s
 
 static int some_byte(int a)
 {
+    int low;
     if (a == 0x31) return one_in(2) ? 1 << below(5) : below(32);
-    if (a == 0xBF) return below(5) | below(4) << 4;
+    if (a == 0xBF) return low = below(5), low | below(4) << 4;
     if (a == 0xE3) return one_in(6) ? below(256) : below(2) * 4;
     if (a == 0x52 || a == 0x53 || a == 0x21 || a == 0x23) return one_in(6) ? 0x80 : below(256);
     return one_in(4) ? (one_in(2) ? 0x00 : 0xFF) : below(256);
@@ -81,7 +84,7 @@ static int some_address(void)
 
 static void setup_line(void)
 {
-    int duty = 0;
+    int duty = 0, override;
     add("S");
     number(one_in(40) ? 3 : below(3));
     for (int i = 0; i < 4; i++) number(one_in(60) ? 128 : between(-40, 60));
@@ -95,48 +98,52 @@ static void setup_line(void)
     for (int i = 0; i < 6; i++) number_or_dash(one_in(60) ? -128 : between(-20, 100), 2);
     number(below(16));
     for (int i = 0; i < 2; i++) number(below(256));
-    for (int i = 0; i < 2; i++) number_or_dash(below(257), 1 + below(3));
+    for (int i = 0; i < 2; i++) override = below(257), number_or_dash(override, 1 + below(3));
     for (int i = 0; i < 2; i++) number(below(257));
     for (int i = 0; i < 2; i++) number(one_in(4) ? below(256) : below(5));
 }
 
 static int some_half_degrees(void) { return one_in(12) ? between(-260, 260) : one_in(3) ? between(-80, 200) : between(50, 120); }
 
-static void event_line(void)
+// the first of each letter's share of twenty
+enum { T = 0, V = 4, F = 7, H = 9, A = 10, K = 11, X = 15, W = 16 };
+
+// an event of document 01: of twenty that are drawn alike, each letter has its share
+static void event_line(int which)
 {
     int a;
-    switch (below(20)) {
-    case 0: case 1: case 2: case 3:
+    switch (which) {
+    case T: case 1: case 2: case 3:
         add("T");
         number(one_in(25) ? between(-1, 7) : between(1, 5));
         number_or_dash(some_half_degrees(), 10);
         break;
-    case 4: case 5: case 6:
+    case V: case 5: case 6:
         add("V");
         number(one_in(25) ? between(-1, 18) : one_in(3) ? 11 + 4 * below(2) : between(1, 16));
         number_or_dash(one_in(25) ? between(-2, 300) : one_in(8) ? below(2) : below(256), 10);
         break;
-    case 7: case 8:
+    case F: case 8:
         add("F");
         number(one_in(25) ? between(0, 6) : between(1, 4));
         number_or_dash(one_in(25) ? between(16380, 16390) : below(16384), 10);
         break;
-    case 9:
+    case H:
         add("H");
         number(one_in(25) ? between(0, 6) : between(1, 4));
         number_or_dash(one_in(25) ? 2 : below(2), 40);
         break;
-    case 10:
+    case A:
         add("A");
         number_or_dash(one_in(25) ? 3 : below(3), 40);
         break;
-    case 11: case 12: case 13: case 14:
+    case K: case 12: case 13: case 14:
         add("K");
         break;
-    case 15:
+    case X:
         add(one_in(4) ? "X" : "K");
         break;
-    case 16: case 17: case 18:
+    case W: case 17: case 18:
         add("W");
         byte(some_address());
         byte(a = some_register());
@@ -148,6 +155,191 @@ static void event_line(void)
         byte(some_register());
     }
 }
+
+// ---- blocks
+
+static const int slave[] = {0x2C, 0x2E, 0x2D};
+static int level, latched, begun; // guessed: the pin's level; the slave address, or 0 before the latch; if a line was taken
+static int refused;               // if the present line is sure to be
+
+static int own_address(void) { return latched ? latched : slave[level]; }
+
+static int block_address(void)
+{
+    switch (below(16)) {
+    case 0: return one_in(2) ? own_address() | 0x80 : between(0x7F, 0x80);
+    case 1: return some_address();
+    case 2: case 3: case 4: return between(0x2C, 0x2F);
+    }
+    return own_address();
+}
+
+static const int counts[] = {8, 8, 6, 16, 4, 8, 12, 32, 8, 8, 16, 9}; // of the commands F2h to FDh
+
+static int some_command(void)
+{
+    static const int unlisted[] = {0x00, 0x40, 0x50, 0xEF, 0xF0, 0xF1, 0xFE, 0xFF};
+    if (one_in(4)) return one_in(6) ? below(256) : unlisted[below(8)];
+    return between(0xF2, 0xFD);
+}
+
+static int some_block_byte(int command, int i)
+{
+    switch (command) {
+    case 0xF2: case 0xF3: return one_in(3) ? 0x00 : one_in(2) ? 0xFF : one_in(2) ? 1 << below(8) : below(256);
+    case 0xF4: return some_byte(0x52);
+    case 0xF9: return one_in(3) ? (i % 2 ? 0xFF : 0x00) : i % 2 ? between(100, 255) : below(120);
+    case 0xFA: return one_in(2) ? 0xFF : below(256);
+    }
+    return some_byte(0);
+}
+
+static void read_block(int address, int command)
+{
+    add("G");
+    byte(address);
+    byte(command);
+}
+
+static void write_block(int address, int command, int count, int n)
+{
+    refused = n != (count & 255) || n > 32;
+    add("P");
+    byte(address);
+    byte(command);
+    byte(count);
+    for (int i = 0; i < n; i++) byte(some_block_byte(command, i));
+}
+
+static void replace(int at, int cut, const char *text)
+{
+    int n = strlen(text);
+    memmove(line + at + n, line + at + cut, len - at - cut);
+    memcpy(line + at, text, n);
+    len += n - cut;
+}
+
+static void lengthen(int n)
+{
+    while (len + 3 <= n) byte(0);
+    while (len < n) add("0");
+}
+
+// one wrong spelling in a line of two digits a field
+static void misspell(void)
+{
+    static const char *const wrong[] = {"-", "-1", "", "1", "00F", "f0", "0f", "G0", "0:", "@0", "0/", " 1", "1 ", "0x"};
+    int last = (len - 1) / 3 - 1, at = 2 + 3 * (one_in(3) ? last : below(last + 1));
+    switch (below(8)) {
+    case 0: add("\t"); break;
+    case 1: field("-"); break;
+    case 2: add(one_in(2) ? "\r" : " "); break;
+    case 3: len -= one_in(2) ? 3 : 1; break;
+    case 4: if (one_in(2)) byte(below(256)); else line[0] ^= 0x20; break;
+    case 5: lengthen(between(508, 516)); break;
+    default: replace(at, 2, wrong[below(sizeof wrong / sizeof wrong[0])]);
+    }
+    refused = 1;
+}
+
+// a block read or write that may be wrong: its address, command, count, number of bytes or spelling
+static void odd_block_line(void)
+{
+    int address = block_address(), command = some_command(), listed = command >= 0xF2 && command <= 0xFD;
+    int count = listed ? counts[command - 0xF2] : below(33), n = count;
+    if (one_in(3)) {
+        read_block(address, command);
+    } else {
+        switch (below(9)) {
+        case 0: n = count += one_in(2) ? 1 : -1; break;
+        case 1: n = count = 0; break;
+        case 2: n = count = between(32, 33); break;
+        case 3: n = count = below(35); break;
+        case 4: n += one_in(2) ? 1 : -1; break;
+        case 5: count += one_in(2) ? 1 : -1; break;
+        case 6: n = one_in(2) ? 0 : between(31, 34); break;
+        case 7: count = one_in(2) ? 0 : below(256); break;
+        }
+        write_block(address, command, count, n);
+    }
+    if (address > 0x7F) refused = 1;
+    if (one_in(4)) misspell();
+}
+
+static void write_own(int a, int b)
+{
+    add("W");
+    byte(own_address());
+    byte(a);
+    byte(b);
+}
+
+// Lines that belong together, parted by spaces. G and P: a right block line, of the command that ends in that digit or, for ?, of one that the
+// scene keeps. O: an odd block line. Z: a write of 31h. L: one that sets LOCK. H: one of a half bit. R: a read of zone 3 or 4. Others: events.
+static const char *const scenes[] = {
+    "O O", "O O", "O O O", "O O O", "O O O", "O O G?", "P? O O G?", "O P? O G?", "O A O G?", "G?", "G? G? P? G?", "P? G?", "P? K G?",
+    "G2 G3 G4 G5 G7",
+    "P9 V V V K G2 G3 P2 G2 G3 K", "P9 K P3 G2 G3 K P2 K G2", "PA F F K G2 G3 P2 G2 K", "PA K G3 P3 G3 K G2", "V V F G5 G7",
+    "G9 P9 G9", "GA PA F GA",
+    "Z P4 G4 R R", "Z P4 H H P4 R R R R G4 K", "T Z P4 H R R G4", "Z V P4 V G4 K", "Z T T P4 Z P4 G4 K",
+    "L P? G? X P? G?", "P? L P? G? G?", "L P8 G8 PB GB X PB GB", "L PC GC X PC GC", "L P9 K G9 PD GD", "L Z P4 G4 X Z P4 G4",
+};
+static const char *const first_scenes[] = {
+    "O A O A G? P?", "A O A O G? P?", "O S O A O G?", "O O S A G? P?", "A S O S O A G?", "G? A G? A G? S", "P? S A P? G?",
+};
+static const char *const long_scenes[] = {"G9 G9 G9 G9 G9 G9 G9 G9", "G9 G9 G9 G9 P9 P9 P9 O", "GC G5 G9 G9 V K"};
+
+static const char *scene = ""; // what is left of it
+static int scene_command;
+
+static int command_at(const char *digit)
+{
+    return *digit == '?' ? scene_command : 0xF0 + (*digit <= '9' ? *digit - '0' : *digit - 'A' + 10);
+}
+
+static void scene_line(void)
+{
+    static const int sources[] = {0x00, 0x01, 0x02, 0x03, 0x10, 0x10, 0x12, 0x13};
+    int command;
+    switch (*scene) {
+    case 'G': read_block(own_address(), command_at(scene + 1)); break;
+    case 'P':
+        command = command_at(scene + 1);
+        write_block(own_address(), command, counts[command - 0xF2], counts[command - 0xF2]);
+        break;
+    case 'O': odd_block_line(); break;
+    case 'Z': write_own(0x31, sources[below(8)]); break;
+    case 'L': write_own(0xE3, 0x02); break;
+    case 'H': write_own(one_in(2) ? 0x20 : 0x22, 0x80); break;
+    case 'R': add("R"); byte(own_address()); byte(between(0x20, 0x23)); break;
+    case 'T': event_line(T); break;
+    case 'V': event_line(V); break;
+    case 'F': event_line(F); break;
+    case 'A': event_line(A); break;
+    case 'K': event_line(K); break;
+    case 'X': add("X"); break;
+    case 'S': setup_line(); break;
+    }
+    scene += strcspn(scene, " ");
+    scene += *scene == ' ';
+}
+
+static void begin_scene(const char *const *from, int n)
+{
+    scene = from[below(n)];
+    scene_command = between(0xF2, 0xFD);
+}
+
+// keeps the guess after a line
+static void follow(void)
+{
+    int pin = line[0] == 'A' || (line[0] == 'S' && !begun);
+    if (pin && line[2] >= '0' && line[2] <= '2') level = line[2] - '0';
+    if (!latched && strchr("WRGP", line[0]) && line[2] == '2' && line[3] >= 'C' && line[3] <= 'F') latched = slave[level];
+    begun = 1;
+}
+
+// ---- sessions
 
 // one change to a line that is spelled right
 static void damage(void)
@@ -167,14 +359,26 @@ static void damage(void)
     }
 }
 
-static void session(void)
+// with_blocks: block reads and writes stand between the events, in a few sessions so many that neither they nor their answers fit into 16 KiB
+static void session(int with_blocks)
 {
-    int lines = between(1, 120), bad = below(4) * 5;
+    int lines = between(1, 120), bad = below(4) * 5, begin = 0, more = 0;
+    if (with_blocks) {
+        begin = one_in(4) ? between(10, 60) : 3;
+        if ((more = one_in(30))) lines = between(200, 900), begin = 95;
+        else if (one_in(2)) begin_scene(first_scenes, sizeof first_scenes / sizeof first_scenes[0]);
+    }
     for (int i = 0; i < lines; i++) {
-        len = 0;
+        len = refused = 0;
+        if (!*scene && begin && below(100) < begin) {
+            if (more) begin_scene(long_scenes, sizeof long_scenes / sizeof long_scenes[0]);
+            else begin_scene(scenes, sizeof scenes / sizeof scenes[0]);
+        }
         if ((i == 0 && one_in(2)) || one_in(60)) setup_line();
-        else event_line();
+        else if (*scene && !one_in(8)) scene_line();
+        else event_line(below(20));
         if (bad && below(100) < bad) damage();
+        else if (!refused) follow();
         for (int k = 0; k < len; k++)
             if (line[k] == '\n') line[k] = 'n';
         fwrite(line, 1, len, stdout);
@@ -190,7 +394,8 @@ static void board(void)
         for (int z = 1; z <= 5; z++) printf("T\t%d\t%d\n", z, between(55, 95));
         for (int v = 1; v <= 16; v++) printf("V\t%d\t%d\n", v, between(180, 200));
         for (int f = 1; f <= 4; f++) printf("F\t%d\t%d\n", f, between(2000, 5000));
-        printf("R\t2C\t%02X\nR\t2C\t%02X\nR\t2C\t41\nK\n", 0x50 + below(4), 0x56 + below(16));
+        printf("R\t2C\t%02X\n", 0x50 + below(4));
+        printf("R\t2C\t%02X\nR\t2C\t41\nK\n", 0x56 + below(16));
     }
 }
 
@@ -199,12 +404,12 @@ int main(int argc, char **argv)
     if (argc == 2 && strcmp(argv[1], "board") == 0) {
         state = 1;
         board();
-    } else if (argc == 3 && strcmp(argv[1], "session") == 0) {
+    } else if (argc == 3 && (strcmp(argv[1], "session") == 0 || strcmp(argv[1], "base") == 0)) {
         state = strtoull(argv[2], 0, 10) * 0x9E3779B97F4A7C15u + 1;
         for (int i = 0; i < 8; i++) next();
-        session();
+        session(argv[1][0] == 's');
     } else {
-        fprintf(stderr, "usage: generate board | generate session SEED\n");
+        fprintf(stderr, "usage: generate board | generate session SEED | generate base SEED\n");
         return 2;
     }
     return 0;
