@@ -26,7 +26,7 @@ blockFor latch address command = pick (isOurs latch address) (blockOf command) U
 
 -- ---- block read
 
--- "A block read shows all its bytes from one state."
+-- "A block read shows all its bytes from one state." Q-4: "Block reads .. show the present byte and neither keep nor drop one."
 unfoldable pub blockBytes : Chip → ℕ → ℕ → List ℕ
 blockBytes c first count = tab (λ k. shownRegister c (blockPlace first k)) count
 

@@ -27,7 +27,7 @@ module _ (command : ℕ) {first count : ℕ} (listed : blockOf command ≡ Fixed
   place-within k h = let w = block-within command listed in omega arith
 
   module _ (c : Chip) where
-    -- and is what a byte read of it shows
+    -- and is its present byte
     pub block-at : (k : ℕ) → k < count → getD (blockBytes c first count) k 0 ≡ shownRegister c (first + k)
     unfolding blockBytes
     block-at k h = tab-at _ count k 0 h ∙ rw (place-within k h)
@@ -41,9 +41,10 @@ module _ (command : ℕ) {first count : ℕ} (listed : blockOf command ≡ Fixed
         let same : length (take count (drop first (shownAll c))) ≡ count = simp (length-take, length-drop, all-long) (omega arith) in
         ext-getD 0 _ _ (long ∙ sym same) (λ k h. let l : k < count = omega arith in block-at k l ∙ sym (getD-take count (drop first (shownAll c)) k 0 l ∙ getD-drop first (shownAll c) k 0 ∙ shown-at c (first + k) (omega arith)))
 
--- a block read shows the part of the dump, of the chip that it finds and of the one that it leaves
+-- a transaction as such changes nothing of the dump; so a block read shows the part of the dump, of the chip that it finds and of the one
+-- that it leaves
 module _ (c : Chip) (address : ℕ) where
-  transacted-shown : shownAll (transacted c address) ≡ shownAll c
+  pub transacted-shown : shownAll (transacted c address) ≡ shownAll c
   unfolding shownAll
   transacted-shown = tab-same _ _ 256 (λ k l. transacted-shows c address k)
 

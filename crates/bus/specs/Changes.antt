@@ -14,9 +14,10 @@ use Rattle.temperature.specs.declared.Reading.{Reading}
 use Rattle.temperature.specs.Temperature.{readingOf, withHalf}
 use Rattle.state.specs.declared.Chip.{Chip}
 use Rattle.state.specs.declared.Zone.{Zone}
+use Rattle.state.specs.declared.FanKept.{FanKept}
 use Rattle.state.specs.declared.Latch.{Latch}
 use Rattle.state.specs.Parts.{registerAt, zoneAt}
-use Rattle.state.specs.With.{withRegisters, withZones, withPin, withRegister, withZone}
+use Rattle.state.specs.With.{withRegisters, withZones, withKept, withPin, withRegister, withZone}
 use Rattle.bus.specs.declared.Change.{Change}
 use Rattle.bus.specs.declared.Change.the-variants.{Nothing, Register, ZoneReading}
 use Rattle.bus.specs.Write.{stored, cleared, zoneWritable, changeWhole, changeHalf, changeKind, isShut, changeHome, changeOf, changed, wroteRegister}
@@ -57,9 +58,9 @@ module _ (c : Chip) (a byte : ℕ) where
       go true e = none
       go false e = by-kind e (kindOf a) refl
 
--- ---- what no write changes
+-- ---- what no transaction changes
 
-pub record Kept (c d : Chip) : Type 0 where
+pub record BusKeeps (c d : Chip) : Type 0 where
   pub setup : d .setup ≡ c .setup
   pub volts : d .volts ≡ c .volts
   pub fans : d .fans ≡ c .fans
@@ -67,16 +68,16 @@ pub record Kept (c d : Chip) : Type 0 where
   pub level : d .pin .level ≡ c .pin .level
   pub drive : d .drive ≡ c .drive
 
--- whatever registers, zones and latch it gets
-pub kept-but : (c : Chip) (r : List ℕ) (z : List Zone) (l : Latch) → Kept c (withPin (withZones (withRegisters c r) z) (record { level = c .pin .level; latch = l }))
-kept-but c r z l = record { setup = refl; volts = refl; fans = refl; hot = refl; level = refl; drive = refl }
+-- whatever registers, zones, kept bytes and latch it gets
+pub bus-keeps-but : (c : Chip) (r : List ℕ) (z : List Zone) (k : List FanKept) (l : Latch) → BusKeeps c (withPin (withKept (withZones (withRegisters c r) z) k) (record { level = c .pin .level; latch = l }))
+bus-keeps-but c r z k l = record { setup = refl; volts = refl; fans = refl; hot = refl; level = refl; drive = refl }
 
 -- a chip keeps its own, and what is kept twice is kept
-pub kept-self : (c : Chip) → Kept c c
-kept-self c = kept-but c (c .registers) (c .zones) (c .pin .latch)
+pub bus-keeps-self : (c : Chip) → BusKeeps c c
+bus-keeps-self c = bus-keeps-but c (c .registers) (c .zones) (c .kept) (c .pin .latch)
 
-pub kept-on : {c d e : Chip} → Kept c d → Kept d e → Kept c e
-kept-on p q = record {
+pub bus-keeps-on : {c d e : Chip} → BusKeeps c d → BusKeeps d e → BusKeeps c e
+bus-keeps-on p q = record {
   setup = q .setup ∙ p .setup;
   volts = q .volts ∙ p .volts;
   fans = q .fans ∙ p .fans;
@@ -85,11 +86,11 @@ kept-on p q = record {
   drive = q .drive ∙ p .drive;
 }
 
-change-kept : (c : Chip) (d : Change) → Kept c (changed c d)
+change-keeps : (c : Chip) (d : Change) → BusKeeps c (changed c d)
 unfolding changed withRegister withZone
-change-kept c Nothing = kept-but c _ _ _
-change-kept c (Register a byte) = kept-but c _ _ _
-change-kept c (ZoneReading i r) = kept-but c _ _ _
+change-keeps c Nothing = bus-keeps-but c _ _ _ _
+change-keeps c (Register a byte) = bus-keeps-but c _ _ _ _
+change-keeps c (ZoneReading i r) = bus-keeps-but c _ _ _ _
 
 change-pin : (c : Chip) (d : Change) → changed c d .pin ≡ c .pin
 unfolding changed withRegister withZone
@@ -97,12 +98,23 @@ change-pin c Nothing = refl
 change-pin c (Register a byte) = refl
 change-pin c (ZoneReading i r) = refl
 
+change-kept : (c : Chip) (d : Change) → changed c d .kept ≡ c .kept
+unfolding changed withRegister withZone
+change-kept c Nothing = refl
+change-kept c (Register a byte) = refl
+change-kept c (ZoneReading i r) = refl
+
 -- a write to a register keeps the setup, the voltages, the fan counts, the hot inputs, the pin's level and the drive
-pub register-keeps : (c : Chip) (a byte : ℕ) → Kept c (wroteRegister c a byte)
+pub register-keeps : (c : Chip) (a byte : ℕ) → BusKeeps c (wroteRegister c a byte)
 unfolding wroteRegister
-register-keeps c a byte = change-kept c (changeOf c a byte)
+register-keeps c a byte = change-keeps c (changeOf c a byte)
 
 -- and the pin with its latch
 pub register-keeps-pin : (c : Chip) (a byte : ℕ) → wroteRegister c a byte .pin ≡ c .pin
 unfolding wroteRegister
 register-keeps-pin c a byte = change-pin c (changeOf c a byte)
+
+-- and the kept bytes
+pub register-keeps-kept : (c : Chip) (a byte : ℕ) → wroteRegister c a byte .kept ≡ c .kept
+unfolding wroteRegister
+register-keeps-kept c a byte = change-kept c (changeOf c a byte)

@@ -13,6 +13,8 @@ use Rattle.state.specs.Made.{ofReadings}
 use Rattle.bus.specs.declared.Dumped.{Dumped}
 use Rattle.bus.specs.Read.{shownRegister, shown-by-parts}
 
+-- 02, Q-4: "Block reads and the dump show the present byte and neither keep nor drop one." Byte reads, one after the other, show the same
+-- bytes (`dump-is-reads`)
 unfoldable pub shownAll : Chip → List ℕ
 shownAll c = tab (shownRegister c) 256
 
@@ -28,7 +30,7 @@ pub all-long : (c : Chip) → length (shownAll c) ≡ 256
 unfolding shownAll
 all-long c = tab-long (shownRegister c) 256
 
--- the dump at k is the read at k
+-- byte k of it is the present byte of register k
 pub shown-at : (c : Chip) (k : ℕ) → k < 256 → getD (shownAll c) k 0 ≡ shownRegister c k
 unfolding shownAll
 shown-at c k h = tab-at (shownRegister c) 256 k 0 h

@@ -15,3 +15,5 @@ pub mod Locked
 pub mod Stands
 pub mod BlockCases
 pub mod DumpAt
+pub mod KeptBytes
+pub mod ReadOn

@@ -17,6 +17,7 @@ use Rattle.state.specs.With.{withRegister, withZone}
 use Rattle.bus.specs.Latch.{transacted}
 use Rattle.bus.specs.declared.Change.{Change}
 use Rattle.bus.specs.Write.{stored, cleared, isShut, changeOf, changed, wroteRegister}
+use Rattle.bus.specs.Read.{keptChip}
 use Rattle.bus.specs.Changes.{Allowed, none, store, clear, zone, change-allowed}
 use Rattle.bus.specs.Transactions.{Transaction, afterAll, all-keep}
 
@@ -61,6 +62,10 @@ transacted-locked : (c d : Chip) (address : ℕ) → LockKept c d → LockKept c
 unfolding transacted registerAt
 transacted-locked c d address p = record { locked = p .locked; marked = p .marked }
 
+kept-locked : (c d : Chip) (a : ℕ) → LockKept c d → LockKept c (keptChip d a)
+unfolding registerAt
+kept-locked c d a p = record { locked = p .locked; marked = p .marked }
+
 register-locked : (c d : Chip) (a byte : ℕ) → LockKept c d → LockKept c (wroteRegister d a byte)
 register-locked c d a byte p = record {
   locked = locked-stays d (p .locked) a byte;
@@ -70,4 +75,4 @@ register-locked c d a byte p = record {
 -- once LOCK is set, no list of transactions clears it or changes a lock-marked register
 pub all-locked : (c : Chip) → T (isSet (registerAt c CONFIGURATION) LOCK) → (ts : List Transaction) → LockKept c (afterAll c ts)
 all-locked c locked ts =
-    all-keep (LockKept c) (transacted-locked c) (register-locked c) ts c (record { locked = locked; marked = λ k m. refl })
+    all-keep (LockKept c) (transacted-locked c) (kept-locked c) (register-locked c) ts c (record { locked = locked; marked = λ k m. refl })

@@ -10,39 +10,50 @@ use Rattle.state.specs.declared.Latch.the-variants.{Held}
 use Rattle.state.specs.With.{withPin}
 use Rattle.bus.specs.Latch.{latchBy, latchAfter, transactedPin, isOurs, transacted}
 use Rattle.bus.specs.Write.{wroteRegister, Written, wroteByte}
-use Rattle.bus.specs.Read.{shownRegister, Byte, NoByte, Seen, readByte}
+use Rattle.bus.specs.Read.{givenRegister, keptChip, Byte, NoByte, Seen, readByte}
 use Rattle.bus.specs.Block.{readBlock, wroteBlock}
 use Rattle.bus.specs.Blocks.{block-cases}
-use Rattle.bus.specs.Changes.{Kept, kept-but, kept-self, kept-on, register-keeps, register-keeps-pin}
+use Rattle.bus.specs.Changes.{BusKeeps, bus-keeps-but, bus-keeps-self, bus-keeps-on, register-keeps, register-keeps-pin}
 
 -- ---- one transaction
 
--- d is c but for its latch
-pub record ButLatch (c d : Chip) : Type 0 where
-  pub kept : Kept c d
+-- d is c but for its latch and its kept bytes
+pub record ButLatchKept (c d : Chip) : Type 0 where
+  pub keeps : BusKeeps c d
   pub registers : d .registers ≡ c .registers
   pub zones : d .zones ≡ c .zones
+
+pub but-latch-kept-self : (c : Chip) → ButLatchKept c c
+but-latch-kept-self c = record { keeps = bus-keeps-self c; registers = refl; zones = refl }
+
+-- d is c but for its latch
+pub record ButLatch (c d : Chip) : Type 0 where
+  pub rest : ButLatchKept c d
+  pub kept : d .kept ≡ c .kept
 
 module _ (c : Chip) (address : ℕ) where
   -- a transaction as such changes nothing but the latch
   pub transacted-keeps : ButLatch c (transacted c address)
   unfolding transacted transactedPin
-  transacted-keeps = record { kept = kept-but c _ _ _; registers = refl; zones = refl }
+  transacted-keeps = record { rest = record { keeps = bus-keeps-but c _ _ _ _; registers = refl; zones = refl }; kept = refl }
 
-  -- a read leaves the chip as any transaction does
-  pub read-chip : (a : ℕ) → readByte c address a .chip ≡ transacted c address
+  -- the chip after a read is as any transaction leaves it, or that with other kept bytes
+  pub read-cases : (P : Chip → Type 0) (a : ℕ) → P (transacted c address) → P (keptChip (transacted c address) a) → P (readByte c address a .chip)
   unfolding readByte
-  read-chip a = go (isOurs (transacted c address .pin .latch) address)
+  read-cases P a p q = go (isOurs (transacted c address .pin .latch) address)
     where
-      go : (t : Bool) → pick {A = Seen} t (record { chip = transacted c address; shown = Byte (shownRegister (transacted c address) a) }) (record { chip = transacted c address; shown = NoByte }) .chip ≡ transacted c address
-      go true = refl
-      go false = refl
+      go : (t : Bool) → P (pick {A = Seen} t (record { chip = keptChip (transacted c address) a; shown = Byte (givenRegister (transacted c address) a) }) (record { chip = transacted c address; shown = NoByte }) .chip)
+      go true = q
+      go false = p
 
-  -- so a read changes nothing but the latch
-  pub read-keeps : (a : ℕ) → ButLatch c (readByte c address a .chip)
-  read-keeps a = rw (read-chip a) transacted-keeps
+  -- so a read changes nothing but the latch and the kept bytes
+  pub read-keeps : (a : ℕ) → ButLatchKept c (readByte c address a .chip)
+  read-keeps a = read-cases (ButLatchKept c) a (transacted-keeps .rest) (kept-rest (transacted-keeps .rest))
+    where
+      kept-rest : ButLatchKept c (transacted c address) → ButLatchKept c (keptChip (transacted c address) a)
+      kept-rest k = record { keeps = bus-keeps-on (k .keeps) (bus-keeps-but (transacted c address) _ _ _ _); registers = k .registers; zones = k .zones }
 
-  -- and so does a block read
+  -- and a block read nothing but the latch
   pub read-block-keeps : (command : ℕ) → ButLatch c (readBlock c address command .chip)
   unfolding readBlock
   read-block-keeps command = transacted-keeps
@@ -68,9 +79,9 @@ module _ (c : Chip) (address : ℕ) where
       go false = p
 
   -- a write keeps the setup, the voltages, the fan counts, the hot inputs, the pin's level and the drive
-  pub write-keeps : (a byte : ℕ) → Kept c (wroteByte c address a byte .chip)
+  pub write-keeps : (a byte : ℕ) → BusKeeps c (wroteByte c address a byte .chip)
   write-keeps a byte =
-      write-cases (Kept c) a byte (transacted-keeps .kept) (kept-on (transacted-keeps .kept) (register-keeps (transacted c address) a byte))
+      write-cases (BusKeeps c) a byte (transacted-keeps .rest .keeps) (bus-keeps-on (transacted-keeps .rest .keeps) (register-keeps (transacted c address) a byte))
 
   -- ---- the latch
 
@@ -113,15 +124,17 @@ unfoldable pub afterAll : Chip → List Transaction → Chip
 afterAll c [] = c
 afterAll c (t ∷ ts) = afterAll (after c t) ts
 
--- what a write and a transaction as such keep, any list of transactions keeps
+-- what a write, a read and a transaction as such keep, any list of transactions keeps
 module _ (P : Chip → Type 0)
     (step : (c : Chip) (address : ℕ) → P c → P (transacted c address))
+    (read-on : (c : Chip) (a : ℕ) → P c → P (keptChip c a))
     (wrote : (c : Chip) (a byte : ℕ) → P c → P (wroteRegister c a byte)) where
   after-keeps : (c : Chip) (t : Transaction) → P c → P (after c t)
   unfolding after readBlock
   after-keeps c (write address a byte) p =
       write-cases c address P a byte (step c address p) (wrote (transacted c address) a byte (step c address p))
-  after-keeps c (read address a) p = rw (read-chip c address a) (step c address p)
+  after-keeps c (read address a) p =
+      read-cases c address P a (step c address p) (read-on (transacted c address) a (step c address p))
   after-keeps c (write-block address command bytes) p = block-cases c address command bytes P (step c address p) wrote
   after-keeps c (read-block address command) p = step c address p
 
@@ -131,11 +144,11 @@ module _ (P : Chip → Type 0)
   all-keep (t ∷ ts) c p = all-keep ts (after c t) (after-keeps c t p)
 
 -- no list of transactions changes the setup, the voltages, the fan counts, the hot inputs, the pin's level or the drive
-pub all-kept : (c : Chip) (ts : List Transaction) → Kept c (afterAll c ts)
-all-kept c ts =
-    all-keep (Kept c) (λ d address k. kept-on k (transacted-keeps d address .kept)) (λ d a byte k. kept-on k (register-keeps d a byte)) ts c (kept-self c)
+pub transactions-keep : (c : Chip) (ts : List Transaction) → BusKeeps c (afterAll c ts)
+transactions-keep c ts =
+    all-keep (BusKeeps c) (λ d address k. bus-keeps-on k (transacted-keeps d address .rest .keeps)) (λ d a k. bus-keeps-on k (bus-keeps-but d _ _ _ _)) (λ d a byte k. bus-keeps-on k (register-keeps d a byte)) ts c (bus-keeps-self c)
 
 -- once latched, the address stays whatever comes
 pub all-held : (c : Chip) (ours : ℕ) → c .pin .latch ≡ Held ours → (ts : List Transaction) → afterAll c ts .pin .latch ≡ Held ours
 all-held c ours held ts =
-    all-keep (λ (d : Chip). d .pin .latch ≡ Held ours) (λ d address h. held-stays d address h) (λ d a byte h. rw (register-keeps-pin d a byte) h) ts c held
+    all-keep (λ (d : Chip). d .pin .latch ≡ Held ours) (λ d address h. held-stays d address h) (λ d a h. h) (λ d a byte h. rw (register-keeps-pin d a byte) h) ts c held

@@ -1,11 +1,11 @@
 // The SMBus side of the chip: the address latch, byte writes, byte reads and the register dump (document 01, "Bus answers"), block reads
-// and block writes (document 02, Q-1).
+// and block writes (document 02, Q-1), the high bytes of fan counts that byte reads keep (Q-4).
 ghost use mathlib.Core.Path.{_≡_};
 ghost use lib.ListN.{length};
-ghost use Rattle.state.specs.Made.{ofRegisters, ofZones, ofReadings};
+ghost use Rattle.state.specs.Made.{ofRegisters, ofZones, ofReadings, ofKept};
 ghost use Rattle.bus.specs.Latch.{latchAfter, transactedPin, isOurs};
 ghost use Rattle.bus.specs.Write.{storedByte, clearedByte, isShut, zoneWritable, stored, cleared, changeWhole, changeHalf, changeHome, changeOf, wroteRegister};
-ghost use Rattle.bus.specs.Read.{voltByte, fanWord, halfByte, shownHome, shownRegister};
+ghost use Rattle.bus.specs.Read.{voltByte, fanWord, lowByte, highByte, halfByte, shownKind, shownRegister, givenByte, readRegister};
 ghost use Rattle.bus.specs.Dump.{dumpAnswer, dumpedInto};
 ghost use Rattle.bus.specs.Block.{blockPlace, blockFor, blockBytes, countedBlock, wroteFrom};
 use map::Block;
@@ -13,7 +13,9 @@ use map::Kind;
 use map::bits;
 use map::registers;
 use state::Count;
+use state::FanKept;
 use state::Gauge;
+use state::KeptByte;
 use state::Latch;
 use state::Pin;
 use state::Zone;
@@ -30,6 +32,12 @@ pub enum Change {
     Nothing,
     Register(u8, u8),
     ZoneReading(u8, Reading),
+}
+
+// What a byte read shows, and the high bytes of fan counts that are kept after it.
+pub struct ByteRead {
+    pub byte: u8,
+    pub kept: [FanKept; 4],
 }
 
 // What a dump answers: 0 or its refusal, and how many bytes it wrote.
@@ -183,7 +191,7 @@ pub fn change_of(file: &[u8; 256], zones: [Zone; 6], register: u8, byte: u8) -> 
     change_home(file, zones, map::home_of(register), byte)
 }
 
-// ---- byte read
+// ---- what a register shows
 
 fn volt_byte(count: Count) -> u8
     ensures { λ r. ⌜ r ≡ voltByte count ⌝ }
@@ -203,6 +211,18 @@ fn fan_word(count: Count) -> u16
     n
 }
 
+fn low_byte(count: Count) -> u8
+    ensures { λ r. ⌜ r ≡ lowByte count ⌝ }
+{
+    (fan_word(count) % 64 * 4) as u8
+}
+
+fn high_byte(count: Count) -> u8
+    ensures { λ r. ⌜ r ≡ highByte count ⌝ }
+{
+    (fan_word(count) / 64 % 256) as u8
+}
+
 fn half_byte(reading: Reading) -> u8
     ensures { λ r. ⌜ r ≡ halfByte reading ⌝ }
 {
@@ -212,28 +232,23 @@ fn half_byte(reading: Reading) -> u8
     0x00
 }
 
-// What a register shows, at its home.
-fn show_home(
+// What a register shows, at its home, by its kind.
+fn show_kind(
     file: &[u8; 256],
     zones: [Zone; 6],
     volts: [Gauge; 16],
     fans: [Gauge; 4],
     home: u8,
+    kind: Kind,
 ) -> u8
-    ensures { λ r. ⌜ r ≡ shownHome (ofReadings (now (file .entry)) zones volts fans) home ⌝ }
+    ensures { λ r. ⌜ r ≡ shownKind (ofReadings (now (file .entry)) zones volts fans) home kind ⌝ }
 {
-    match map::kind_of(home) {
+    match kind {
         Kind::Whole(zone) => temperature::whole_byte(state::zone_at(zones, zone)),
         Kind::Half(zone) => half_byte(state::zone_at(zones, zone)),
         Kind::Volt(channel) => volt_byte(state::volt_at(volts, channel)),
-        Kind::FanLow(fan) => {
-            let word = fan_word(state::fan_at(fans, fan));
-            (word % 64 * 4) as u8
-        }
-        Kind::FanHigh(fan) => {
-            let word = fan_word(state::fan_at(fans, fan));
-            (word / 64 % 256) as u8
-        }
+        Kind::FanLow(fan) => low_byte(state::fan_at(fans, fan)),
+        Kind::FanHigh(fan) => high_byte(state::fan_at(fans, fan)),
         Kind::Plain => file[home as usize],
         Kind::Status => file[home as usize],
         Kind::VoltLow(_) => file[home as usize],
@@ -244,7 +259,7 @@ fn show_home(
 }
 
 // What a register shows, at its own address or a mirror's.
-pub fn show_register(
+fn show_register(
     file: &[u8; 256],
     zones: [Zone; 6],
     volts: [Gauge; 16],
@@ -253,12 +268,59 @@ pub fn show_register(
 ) -> u8
     ensures { λ r. ⌜ r ≡ shownRegister (ofReadings (now (file .entry)) zones volts fans) register ⌝ }
 {
-    show_home(file, zones, volts, fans, map::home_of(register))
+    let home = map::home_of(register);
+    show_kind(file, zones, volts, fans, home, map::kind_of(home))
+}
+
+// ---- byte read
+
+// The kept byte, or the present one where none is kept.
+fn given_byte(kept: KeptByte, present: u8) -> u8
+    ensures { λ r. ⌜ r ≡ givenByte kept present ⌝ }
+{
+    let KeptByte::High(byte) = kept else {
+        return present;
+    };
+    byte
+}
+
+// What a byte read of a register shows, and the high bytes that are kept after it: a read of a low byte keeps the high byte, a read of a
+// high byte drops it.
+pub fn read_register(
+    file: &[u8; 256],
+    zones: [Zone; 6],
+    volts: [Gauge; 16],
+    fans: [Gauge; 4],
+    kept: [FanKept; 4],
+    register: u8,
+) -> ByteRead
+    ensures { λ r. ⌜ r ≡ readRegister (ofKept (now (file .entry)) zones volts fans kept) register ⌝ }
+{
+    let home = map::home_of(register);
+    let kind = map::kind_of(home);
+    let present = show_kind(file, zones, volts, fans, home, kind);
+    match kind {
+        Kind::FanLow(fan) => {
+            let high = high_byte(state::fan_at(fans, fan));
+            ByteRead {
+                byte: present,
+                kept: state::with_kept_byte(kept, fan, KeptByte::High(high)),
+            }
+        }
+        Kind::FanHigh(fan) => ByteRead {
+            byte: given_byte(state::kept_at(kept, fan), present),
+            kept: state::with_kept_byte(kept, fan, KeptByte::None),
+        },
+        _ => ByteRead {
+            byte: present,
+            kept: kept,
+        },
+    }
 }
 
 // ---- dump
 
-// The 256 bytes that byte reads of 00h to FFh would show, in order, into a lent buffer. Under 256 bytes are refused by 5.
+// The 256 bytes that byte reads of 00h to FFh, one after the other, would show, into a lent buffer. Under 256 bytes are refused by 5.
 pub fn dump(
     file: &[u8; 256],
     zones: [Zone; 6],

@@ -34,6 +34,8 @@ use Rattle.state.proofs.zone_at.Reads.{Learnt as zone-at-promise}
 use Rattle.state.proofs.volt_at.Reads.{Learnt as volt-at-promise}
 use Rattle.state.proofs.fan_at.Reads.{Learnt as fan-at-promise}
 use Rattle.state.proofs.with_reading.Reads.{Learnt as with-reading-promise}
+use Rattle.state.proofs.kept_at.Reads.{Learnt as kept-at-promise}
+use Rattle.state.proofs.with_kept_byte.Reads.{Learnt as with-kept-byte-promise}
 use Rattle.sense.proofs.mark_missing.Reads.{Learnt as mark-missing-promise}
 use Rattle.sense.proofs.errors_standing.Reads.{Learnt as errors-standing-promise}
 use Rattle.sense.proofs.alert_active.Reads.{Learnt as alert-active-promise}
@@ -47,7 +49,7 @@ use Rattle.sense.proofs.take_reset.Reads.{Learnt as take-reset-promise}
 use Rattle.bus.proofs.transact.Reads.{Learnt as transact-promise}
 use Rattle.bus.proofs.answers.Reads.{Learnt as answers-promise}
 use Rattle.bus.proofs.change_of.Reads.{Learnt as change-of-promise}
-use Rattle.bus.proofs.show_register.Reads.{Learnt as show-register-promise}
+use Rattle.bus.proofs.read_register.Reads.{Learnt as read-register-promise}
 use Rattle.bus.proofs.dump.Reads.{Learnt as dump-promise}
 use Rattle.bus.proofs.block_read.Reads.{Learnt as block-read-promise}
 use Rattle.bus.proofs.block_written.Reads.{Learnt as block-written-promise}
@@ -192,6 +194,12 @@ fan-at = determined (λ κs a r e p. p)
 pub with-reading : Result with-reading-promise
 with-reading = determined (λ κs a r e p. p)
 
+pub kept-at : Result kept-at-promise
+kept-at = determined (λ κs a r e p. p)
+
+pub with-kept-byte : Result with-kept-byte-promise
+with-kept-byte = determined (λ κs a r e p. p)
+
 -- ---- sense: readings, errors and ALERT
 
 pub mark-missing : Left mark-missing-promise (λ κs e. now (e .0))
@@ -235,8 +243,8 @@ answers = determined (λ κs a r e p. p)
 pub change-of : Result change-of-promise
 change-of = determined (λ κs a r e p. p)
 
-pub show-register : Result show-register-promise
-show-register = determined (λ κs a r e p. p)
+pub read-register : Result read-register-promise
+read-register = determined (λ κs a r e p. p)
 
 pub dump : ResultAnd dump-promise (λ κs e. now (e .1 .1 .1 .1 .0))
 dump = determined (λ κs a r e p. both p)

@@ -2,4 +2,5 @@ pub mod Determined
 pub mod Said
 pub mod Printed
 pub mod PrintedBlocks
+pub mod PrintedFans
 pub mod ProvedCases

@@ -33,6 +33,7 @@ use Rattle.event.specs.Session.{session, answers, session-answers}
 use Rattle.line.specs.Line.{startSession}
 use Rattle.line.specs.Session.{printedFrom}
 use Rattle.determined.specs.Printed.{input, output, printed}
+use Rattle.determined.specs.PrintedFans.{fanInput, fanOutput, fans-printed}
 use Rattle.determined.specs.PrintedBlocks.{blockInput, blockOutput, blocks-printed, RepliesIn, rooms, too-many}
 
 -- the chip at power-on without a setup, with a byte stored at an address
@@ -92,6 +93,9 @@ pub record Cases : Type 0 where
   pub block-rooms : RepliesIn 127 (71 ∷ 71 ∷ []) 5 0 × RepliesIn 128 (71 ∷ 71 ∷ []) 4 0 × RepliesIn 127 (71 ∷ 9 ∷ 50 ∷ 67 ∷ 9 ∷ 70 ∷ 54 ∷ []) 5 0 × RepliesIn 128 (71 ∷ 9 ∷ 50 ∷ 67 ∷ 9 ∷ 70 ∷ 54 ∷ []) 0 19 × RepliesIn 64 (80 ∷ 9 ∷ 50 ∷ 67 ∷ 9 ∷ 70 ∷ 50 ∷ 9 ∷ 48 ∷ 48 ∷ []) 0 4
   -- "more than 32 data bytes .. is 4", beside an event too, and before 2
   pub block-too-many : (refusalOf (WriteBlock 0x80 0xF2) (replicate 33 0) ≡ 4) × (refusalOf (WriteBlock 0x80 0xF2) (replicate 32 0) ≡ 2)
+  -- ---- document 02, Q-4, "Fan counts that are not torn"
+  -- R lines of fan counts with F, X and G lines between them, from power-on: their bytes, and those that they print
+  pub fan-counts : printedFrom startSession 1 fanInput ≡ fanOutput
 
 -- two facts that stand in no other crate
 fan-limit : fanLimitAt (fresh .registers) 0 ≡ 0x3FFF
@@ -125,4 +129,5 @@ all = record {
   blocks = blocks-printed;
   block-rooms = rooms;
   block-too-many = too-many;
+  fan-counts = fans-printed;
 }

@@ -29,13 +29,14 @@ pub record SameButDrive (c d : Chip) : Type 0 where
   pub zones : c .zones ≡ d .zones
   pub volts : c .volts ≡ d .volts
   pub fans : c .fans ≡ d .fans
+  pub kept : c .kept ≡ d .kept
   pub hot : c .hot ≡ d .hot
   pub pin : c .pin ≡ d .pin
 
 -- a tick changes nothing but the drive
 pub tick-keeps : (c : Chip) → SameButDrive (tickedChip c .chip) c
 unfolding tickedChip
-tick-keeps c = record { setup = refl; registers = refl; zones = refl; volts = refl; fans = refl; hot = refl; pin = refl }
+tick-keeps c = record { setup = refl; registers = refl; zones = refl; volts = refl; fans = refl; kept = refl; hot = refl; pin = refl }
 
 -- the duties that a tick leaves are the two fans' duties
 pub tick-duties : (c : Chip) (fan : ℕ) → fan < 2 → getD (tickedChip c .chip .drive .duties) fan 0 ≡ dutyOf c fan
@@ -117,6 +118,7 @@ module _ {c d : Chip} (v : Valid (c .setup)) (k : Cooler c d) where
     zones = k .zones;
     volts = k .volts;
     fans = k .fans;
+    kept = k .kept;
     hot = k .hot;
     pin = k .pin;
     drive = record {

@@ -1,5 +1,5 @@
 -- Document 02, Q-1: block reads and block writes as events, and the bytes beside other events. Assumes nothing.
-use mathlib.Core.Path.{_≡_, refl}
+use mathlib.Core.Path.{_≡_, refl, ap}
 use mathlib.Core.Bool.{true, false}
 use mathlib.Core.List.{List, []}
 use Prim.Native.Nat.{ℕ, _+_, _≤_, _<_}
@@ -10,6 +10,7 @@ use Rattle.laws.specs.Never.{never}
 use Rattle.map.specs.declared.Block.{Block}
 use Rattle.map.specs.declared.Block.the-variants.{Unlisted, Fixed}
 use Rattle.map.specs.Blocks.{blockOf, block-within}
+use Rattle.map.specs.FanBytes.{highPlace}
 use Rattle.state.specs.declared.Chip.{Chip}
 use Rattle.bus.specs.Latch.{isOurs, transacted}
 use Rattle.bus.specs.Read.{readByte}
@@ -17,10 +18,11 @@ use Rattle.bus.specs.Dump.{shownAll}
 use Rattle.bus.specs.Block.{blockFor, blockBytes, readBlock, countedBlock, wroteBy, wroteBlock}
 use Rattle.bus.specs.BlockAnswers.{for-listed, counted-is, listed-block-read, listed-block-write}
 use Rattle.bus.specs.BlockPart.{block-at, block-read-part}
-use Rattle.bus.specs.Transactions.{read-chip}
+use Rattle.bus.specs.KeptBytes.{read-present}
 use Rattle.event.specs.declared.Event.{Event}
 use Rattle.event.specs.declared.Event.the-variants.{Temperature, Voltage, Fan, Hot, Pin, Tick, Reset, Write, Read, ReadBlock, WriteBlock}
 use Rattle.event.specs.declared.Answer.the-variants.{Byte, Block as BlockShown, BlockWritten}
+use Rattle.event.specs.declared.Stepped.{Stepped}
 use Rattle.event.specs.Event.{eventIn, refusalOf, seenAnswer, readAnswer, blockAnswer, seenBlockAnswer, writtenBlockAnswer, takenStep, steppedChip}
 use Rattle.event.specs.Refusal.{in-number, taken-in, step-taken, taken-number}
 
@@ -109,31 +111,25 @@ module _ (c : Chip) (address command : ℕ) (bytes : List ℕ) where
 
 -- ---- what they leave where nothing is written
 
--- a byte read leaves the chip as any transaction does
-read-leaves : (c : Chip) (address a : ℕ) → address ≤ 0x7F → steppedChip c (Read address a) [] .chip ≡ transacted c address
-unfolding eventIn takenStep readAnswer
-read-leaves c address a low =
-    rw (step-taken c (Read address a) [] (in-number _ [] (omega arith) (le-leb address 0x7F low))) (read-chip c address a)
-
 -- a write that is not acknowledged writes nothing
 unacked-keeps : (c : Chip) (bytes : List ℕ) (b : Block) → BlockWritten (wroteBy c b bytes .ack) ≡ BlockWritten false → wroteBy c b bytes .chip ≡ c
 unfolding wroteBy
 unacked-keeps c bytes Unlisted q = refl
 unacked-keeps c bytes (Fixed first count) q = absurd (never (cc))
 
-module _ (c : Chip) (address command : ℕ) (bytes : List ℕ) (a : ℕ) where
-  -- a block read leaves the chip as a byte read does: nothing changes but the latch
-  pub block-read-leaves : length bytes ≤ 32 → address ≤ 0x7F → steppedChip c (ReadBlock address command) bytes .chip ≡ steppedChip c (Read address a) [] .chip
+module _ (c : Chip) (address command : ℕ) (bytes : List ℕ) where
+  -- a block read leaves the chip as any transaction does: nothing changes but the latch (`transacted-keeps`)
+  pub block-read-leaves : length bytes ≤ 32 → address ≤ 0x7F → steppedChip c (ReadBlock address command) bytes .chip ≡ transacted c address
   unfolding eventIn takenStep seenBlockAnswer readBlock
   block-read-leaves few low =
-      rw (step-taken c (ReadBlock address command) bytes (in-number _ bytes few (le-leb address 0x7F low)), read-leaves c address a low)
+      rw (step-taken c (ReadBlock address command) bytes (in-number _ bytes few (le-leb address 0x7F low)))
 
   -- and so does a block write that is not acknowledged, whatever the reason
-  pub unacked-leaves : steppedChip c (WriteBlock address command) bytes .answer ≡ BlockWritten false → steppedChip c (WriteBlock address command) bytes .chip ≡ steppedChip c (Read address a) [] .chip
+  pub unacked-leaves : steppedChip c (WriteBlock address command) bytes .answer ≡ BlockWritten false → steppedChip c (WriteBlock address command) bytes .chip ≡ transacted c address
   unfolding eventIn takenStep writtenBlockAnswer wroteBlock
   unacked-leaves q =
       let z = taken-number c (WriteBlock address command) bytes (λ n r. never (cc)) in
-      rw (step-taken c (WriteBlock address command) bytes z, read-leaves c address a (leb-true address 0x7F (taken-in _ bytes z))) (unacked-keeps (transacted c address) bytes _ (rw (step-taken c (WriteBlock address command) bytes z) at q))
+      rw (step-taken c (WriteBlock address command) bytes z) (unacked-keeps (transacted c address) bytes _ (rw (step-taken c (WriteBlock address command) bytes z) at q))
 
 -- ---- the bytes that a block read shows
 
@@ -144,15 +140,20 @@ module _ (c : Chip) (address command : ℕ) (bytes : List ℕ) {first count : �
   shown-taken =
       step-taken c (ReadBlock address command) bytes (taken-number c (ReadBlock address command) bytes (λ n r. never (cc)))
 
+  -- and leaves the chip as any transaction does
+  pub shown-leaves : steppedChip c (ReadBlock address command) bytes .chip ≡ transacted c address
+  unfolding seenBlockAnswer readBlock
+  shown-leaves = ap (λ (s : Stepped). s .chip) shown-taken
+
   -- they are a part of the dump
   pub shown-part : blockBytes (steppedChip c (ReadBlock address command) bytes .chip) first count ≡ take count (drop first (shownAll c))
   unfolding seenBlockAnswer
   shown-part =
       rw shown-taken (block-read-part c address command (shown-is _ (rw shown-taken at shown)))
 
-  -- and each is what a byte read would answer instead
-  pub shown-byte : (k : ℕ) → k < count → steppedChip c (Read address (first + k)) [] .answer ≡ Byte (getD (blockBytes (steppedChip c (ReadBlock address command) bytes .chip) first count) k 0)
-  unfolding eventIn takenStep readAnswer seenAnswer readByte seenBlockAnswer readBlock
-  shown-byte k h =
+  -- and each is what a byte read would answer instead, but for the four high bytes of the fan counts
+  pub shown-byte : (k : ℕ) → k < count → ((fan : ℕ) → fan < 4 → first + k ≡ highPlace fan → ⊥) → steppedChip c (Read address (first + k)) [] .answer ≡ Byte (getD (blockBytes (steppedChip c (ReadBlock address command) bytes .chip) first count) k 0)
+  unfolding eventIn takenStep readAnswer seenAnswer readByte
+  shown-byte k h n =
       let f = shown-for c address command bytes shown in
-      rw (shown-taken, step-taken c (Read address (first + k)) [] (in-number _ [] (omega arith) (le-leb address 0x7F (f .low))), f .ours, block-at command (f .listed) (transacted c address) k h)
+      rw (shown-leaves, step-taken c (Read address (first + k)) [] (in-number _ [] (omega arith) (le-leb address 0x7F (f .low))), f .ours, block-at command (f .listed) (transacted c address) k h, read-present (transacted c address) (first + k) n)

@@ -59,6 +59,7 @@ pub record Sized (c : Chip) : Type 0 where
   pub zones : length (c .zones) ≡ 6
   pub volts : length (c .volts) ≡ 16
   pub fans : length (c .fans) ≡ 4
+  pub kept : length (c .kept) ≡ 4
   pub hot : length (c .hot) ≡ 4
   pub steps : length (c .drive .steps) ≡ 4
   pub boosts : length (c .drive .boosts) ≡ 6
@@ -74,6 +75,7 @@ power-sized s = record {
   zones = refl;
   volts = refl;
   fans = refl;
+  kept = refl;
   hot = refl;
   steps = refl;
   boosts = refl;
@@ -89,6 +91,7 @@ module _ {c : Chip} (s : Sized c) where
     zones = p .zones ∙ s .zones;
     volts = p .volts ∙ s .volts;
     fans = p .fans ∙ s .fans;
+    kept = p .kept ∙ s .kept;
     hot = p .hot ∙ s .hot;
     steps = rw (p .drive) (s .steps);
     boosts = rw (p .drive) (s .boosts);
@@ -104,6 +107,7 @@ module _ {c : Chip} (s : Sized c) where
     zones = s .zones;
     volts = s .volts;
     fans = s .fans;
+    kept = s .kept;
     hot = s .hot;
     steps = refl;
     boosts = refl;

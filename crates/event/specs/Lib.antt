@@ -8,3 +8,5 @@ pub mod Lasting
 pub mod Reached
 pub mod Blocks
 pub mod Bytewise
+pub mod Reads
+pub mod NotTorn

@@ -12,6 +12,7 @@ use Rattle.temperature.specs.declared.Reading.{Reading}
 use Rattle.state.specs.declared.Chip.{Chip}
 use Rattle.state.specs.declared.Zone.{Zone}
 use Rattle.state.specs.declared.Gauge.{Gauge}
+use Rattle.state.specs.declared.FanKept.{FanKept}
 use Rattle.state.specs.declared.Pin.{Pin}
 use Rattle.state.specs.declared.Count.{Count}
 use Rattle.state.specs.declared.Count.the-variants as count
@@ -24,10 +25,11 @@ use Rattle.bus.specs.Latch.{transacted}
 use Rattle.bus.specs.declared.Change.{Change}
 use Rattle.bus.specs.declared.Change.the-variants.{Nothing, Register, ZoneReading}
 use Rattle.bus.specs.Write.{changeOf, changed, wroteRegister, wroteByte}
-use Rattle.bus.specs.Read.{readByte}
+use Rattle.bus.specs.Read.{keptChip, readByte}
+use Rattle.bus.specs.KeptBytes.{kept-many}
 use Rattle.bus.specs.Block.{readBlock, wroteBlock}
 use Rattle.bus.specs.Blocks.{block-cases}
-use Rattle.bus.specs.Transactions.{read-chip, write-cases}
+use Rattle.bus.specs.Transactions.{read-cases, write-cases}
 use Rattle.event.specs.declared.Event.{Event}
 use Rattle.event.specs.declared.Event.the-variants.{Temperature, Voltage, Fan, Hot, Pin as PinEvent, Tick, Reset, Write, Read, ReadBlock, WriteBlock}
 use Rattle.event.specs.Event.{quietStep, writtenAnswer, readAnswer, seenBlockAnswer, writtenBlockAnswer, takenStep, steppedChip}
@@ -40,15 +42,16 @@ pub record SameShape (c d : Chip) : Type 0 where
   pub zones : length (d .zones) ≡ length (c .zones)
   pub volts : length (d .volts) ≡ length (c .volts)
   pub fans : length (d .fans) ≡ length (c .fans)
+  pub kept : length (d .kept) ≡ length (c .kept)
   pub hot : length (d .hot) ≡ length (c .hot)
   pub drive : d .drive ≡ c .drive
 
 -- whatever its pin, and whatever its lists, if they are as long
-shape-but : (c : Chip) {r : List ℕ} {z : List Zone} {v f : List Gauge} {h : List Bool} {p : Pin} → length r ≡ length (c .registers) → length z ≡ length (c .zones) → length v ≡ length (c .volts) → length f ≡ length (c .fans) → length h ≡ length (c .hot) → SameShape c (record { setup = c .setup; registers = r; zones = z; volts = v; fans = f; hot = h; pin = p; drive = c .drive })
-shape-but c a b d e g = record { setup = refl; registers = a; zones = b; volts = d; fans = e; hot = g; drive = refl }
+shape-but : (c : Chip) {r : List ℕ} {z : List Zone} {v f : List Gauge} {k : List FanKept} {h : List Bool} {p : Pin} → length r ≡ length (c .registers) → length z ≡ length (c .zones) → length v ≡ length (c .volts) → length f ≡ length (c .fans) → length k ≡ length (c .kept) → length h ≡ length (c .hot) → SameShape c (record { setup = c .setup; registers = r; zones = z; volts = v; fans = f; kept = k; hot = h; pin = p; drive = c .drive })
+shape-but c a b d e g i = record { setup = refl; registers = a; zones = b; volts = d; fans = e; kept = g; hot = i; drive = refl }
 
 pub shape-self : (c : Chip) → SameShape c c
-shape-self c = shape-but c refl refl refl refl refl
+shape-self c = shape-but c refl refl refl refl refl refl
 
 shape-on : {c d e : Chip} → SameShape c d → SameShape d e → SameShape c e
 shape-on p q = record {
@@ -57,6 +60,7 @@ shape-on p q = record {
   zones = q .zones ∙ p .zones;
   volts = q .volts ∙ p .volts;
   fans = q .fans ∙ p .fans;
+  kept = q .kept ∙ p .kept;
   hot = q .hot ∙ p .hot;
   drive = q .drive ∙ p .drive;
 }
@@ -65,7 +69,7 @@ shape-on p q = record {
 
 module _ (c : Chip) where
   shape-registers : (f : List ℕ) → length f ≡ length (c .registers) → SameShape c (withRegisters c f)
-  shape-registers f e = shape-but c e refl refl refl refl
+  shape-registers f e = shape-but c e refl refl refl refl refl
 
   shape-register : (a b : ℕ) → SameShape c (withRegister c a b)
   unfolding withRegister
@@ -73,22 +77,25 @@ module _ (c : Chip) where
 
   shape-zone : (i : ℕ) (r : Reading) → SameShape c (withZone c i r)
   unfolding withZone
-  shape-zone i r = shape-but c refl (length-set (c .zones) i _) refl refl refl
+  shape-zone i r = shape-but c refl (length-set (c .zones) i _) refl refl refl refl
 
   shape-volt : (i : ℕ) (n : Count) → SameShape c (withVolt c i n)
   unfolding withVolt
-  shape-volt i n = shape-but c refl refl (length-set (c .volts) i _) refl refl
+  shape-volt i n = shape-but c refl refl (length-set (c .volts) i _) refl refl refl
 
   shape-fan : (i : ℕ) (n : Count) → SameShape c (withFan c i n)
   unfolding withFan
-  shape-fan i n = shape-but c refl refl refl (length-set (c .fans) i _) refl
+  shape-fan i n = shape-but c refl refl refl (length-set (c .fans) i _) refl refl
+
+  shape-read : (a : ℕ) → SameShape c (keptChip c a)
+  shape-read a = shape-but c refl refl refl refl (kept-many c a) refl
 
   shape-hot : (i : ℕ) (h : Bool) → SameShape c (withHotInput c i h)
   unfolding withHotInput
-  shape-hot i h = shape-but c refl refl refl refl (length-set (c .hot) i h)
+  shape-hot i h = shape-but c refl refl refl refl refl (length-set (c .hot) i h)
 
   shape-pin : (p : Pin) → SameShape c (withPin c p)
-  shape-pin p = shape-but c refl refl refl refl refl
+  shape-pin p = shape-but c refl refl refl refl refl refl
 
 -- ---- the register file stays as long
 
@@ -202,7 +209,8 @@ module _ (c : Chip) where
       write-cases c address (SameShape c) a byte (transacted-shape c address) (shape-on (transacted-shape c address) (register-shape (transacted c address) a byte))
 
   read-shape : (address a : ℕ) → SameShape c (readByte c address a .chip)
-  read-shape address a = rw (read-chip c address a) (transacted-shape c address)
+  read-shape address a =
+      read-cases c address (SameShape c) a (transacted-shape c address) (shape-on (transacted-shape c address) (shape-read (transacted c address) a))
 
   read-block-shape : (address command : ℕ) → SameShape c (readBlock c address command .chip)
   unfolding readBlock

@@ -11,6 +11,7 @@ use Rattle.map.specs.Tables.{defaults, writables, lockMarks, homes}
 use Rattle.map.specs.Map.{writableOf, lockMarked, homeOf}
 use Rattle.map.specs.Bits.{isSet}
 use Rattle.map.specs.Kind.{kindOf}
+use Rattle.map.specs.FanBytes.{byteOfKind, fanByteAt}
 use Rattle.map.specs.Slave.{slaveAddress}
 use Rattle.temperature.specs.declared.Reading.the-variants as reading
 use Rattle.temperature.specs.Temperature.{byteOf, wholeOf, wholeByte, hotterOf}
@@ -28,7 +29,7 @@ use Rattle.sense.specs.Standing.{bitsOf, errorsStanding, alertActive}
 use Rattle.sense.specs.Events.{zoneThreeFed, zoneHeard, tookTemperature, tookHot}
 use Rattle.bus.specs.Latch.{latchBy, latchAfter, transactedPin, isOurs, transacted}
 use Rattle.bus.specs.Write.{storedByte, stored, changeKind, isShut, changeHome, changeOf, changed, wroteRegister, wroteByte}
-use Rattle.bus.specs.Read.{shownKind, shownHome, shownRegister, readByte}
+use Rattle.bus.specs.Read.{shownKind, shownHome, shownRegister, givenAt, givenRegister, keptAs, keptAfter, readByte}
 use Rattle.drive.specs.declared.Driven.{Driven}
 use Rattle.drive.specs.Tables.{joinedZone, zoneOne, zoneTwo, followedZone, unitOf, tableOf, sumTo, isReached, thresholdReached, notAbove, settled, newStep, askedDuty}
 use Rattle.drive.specs.Boosts.{isBoosted, boostEnabled}
@@ -171,7 +172,7 @@ hot = record { step = refl }
 
 -- R 2C 52, R 2D 52
 reads : Answered chip10 (Read 0x2C 0x52) (Byte 0x21) chip10 × Answered chip10 (Read 0x2D 0x52) NoByte chip10
-unfolding steppedChip refusalOf eventIn takenStep readAnswer seenAnswer readByte transacted transactedPin latchAfter latchBy isOurs shownRegister shownHome shownKind wholeByte wholeOf byteOf zoneAt withRegister withZone withHotInput homeOf homes kindOf powerOn
+unfolding steppedChip refusalOf eventIn takenStep readAnswer seenAnswer readByte transacted transactedPin latchAfter latchBy isOurs givenRegister givenAt keptAfter keptAs fanByteAt byteOfKind shownRegister shownHome shownKind wholeByte wholeOf byteOf zoneAt withRegister withZone withHotInput homeOf homes kindOf powerOn
 reads = (record { step = refl }, record { step = refl })
 
 -- ---- K

@@ -343,13 +343,12 @@ pub fn step(chip: Chip, event: Event, bytes: &[u8]) -> Stepped
                     let zones = next.zones;
                     let volts = next.volts;
                     let fans = next.fans;
-                    answer = Answer::Byte(bus::show_register(
-                        &next.registers,
-                        zones,
-                        volts,
-                        fans,
-                        register,
-                    ));
+                    let kept = next.kept;
+                    let file = &next.registers;
+                    let read = bus::read_register(file, zones, volts, fans, kept, register);
+                    let left = read.kept;
+                    next.kept = left;
+                    answer = Answer::Byte(read.byte);
                 }
             }
             Event::ReadBlock { address, command } => {

@@ -9,6 +9,8 @@ use line::Reply;
 use line::Session;
 use parse::Parsed;
 use state::Chip;
+use state::FanKept;
+use state::KeptByte;
 use text::BLOCK_ROOM;
 use text::ROOM;
 
@@ -38,13 +40,40 @@ fn same_reply(a: Reply, b: Reply) -> bool {
     a.refusal == b.refusal && a.length == b.length
 }
 
-// The dump of the one is the port's, of the other the one by value.
+fn same_byte(a: KeptByte, b: KeptByte) -> bool {
+    match a {
+        KeptByte::None => {
+            let KeptByte::None = b else {
+                return false;
+            };
+            true
+        }
+        KeptByte::High(n) => {
+            let KeptByte::High(m) = b else {
+                return false;
+            };
+            n == m
+        }
+    }
+}
+
+fn same_at(a: [FanKept; 4], b: [FanKept; 4], fan: u8) -> bool {
+    same_byte(state::kept_at(a, fan), state::kept_at(b, fan))
+}
+
+fn same_kept(a: [FanKept; 4], b: [FanKept; 4]) -> bool {
+    same_at(a, b, 0) && same_at(a, b, 1) && same_at(a, b, 2) && same_at(a, b, 3)
+}
+
+// The dump of the one is the port's, of the other the one by value. A dump does not show the kept bytes, so they are compared beside it.
 fn same_chip(held: Chip, moved: Chip) -> bool {
     let mut a = [0u8; REGISTERS];
     let mut b = [0u8; REGISTERS];
     lent::dump(held, &mut a);
     event::dump(moved, &mut b);
-    check::same(&a, &b)
+    let held_kept = held.kept;
+    let moved_kept = moved.kept;
+    check::same(&a, &b) && same_kept(held_kept, moved_kept)
 }
 
 fn same_session(held: Session, moved: Session) -> bool {

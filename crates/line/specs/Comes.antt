@@ -1,21 +1,27 @@
 -- What comes of a line, by what it asks for. Assumes nothing.
 use mathlib.Core.Path.{_≡_}
-use mathlib.Core.Bool.{Bool}
+use mathlib.Core.Bool.{Bool, true}
 use mathlib.Core.List.{List}
 use Prim.Native.Nat.{ℕ, _≤_, _<_}
 use native.Mathlib.Omega.{arith}
-use lib.Dec.{eqb}
+use lib.Dec.{eqb, ltb}
 use lib.ListN.{length, getD}
 use borrow.Author.Tests.{eq-eqb, ne-eqb, lt-ltb, le-ltb}
+use Rattle.laws.specs.Never.{never}
 use Rattle.laws.specs.Pointwise.{pick-each}
 use Rattle.event.specs.declared.Event.{Event}
-use Rattle.parse.specs.Parse.{dataOf}
+use Rattle.event.specs.Event.{refusalOf}
+use Rattle.parse.specs.declared.Parsed.{Parsed}
+use Rattle.parse.specs.declared.Parsed.the-variants.{Wrong, Fine}
+use Rattle.parse.specs.Parse.{letterOf, eventOf, dataOf}
+use Rattle.settings.specs.Settings.{settingsOf}
 use Rattle.text.specs.Answers.{ROOM, BLOCK-ROOM}
 use Rattle.text.specs.Written.{wrote-none, wrote-zero}
 use Rattle.line.specs.declared.Session.{Session}
 use Rattle.line.specs.declared.Taken.{Taken}
+use Rattle.line.specs.declared.Asked.{Asked}
 use Rattle.line.specs.declared.Asked.the-variants as asked
-use Rattle.line.specs.Line.{roomFor, askedLine, refusedLine, begunLine, setupLine, eventLine, judgedBy, answerText, answerRoom, takenBy, bufferBy, silentLine, judgedLine, judgedIn, takenLine, bufferAfter}
+use Rattle.line.specs.Line.{roomFor, askedEvent, askedSettings, askedOther, askedBy, askedText, askedLine, refusedLine, begunLine, setupLine, eventLine, judgedBy, answerText, answerRoom, takenBy, bufferBy, silentLine, judgedLine, judgedIn, takenLine, bufferAfter}
 
 -- a line's reply and what it leaves in the lent output
 pub record Comes (s : Session) (line out : List ℕ) (t : Taken) (left : List ℕ) : Type 0 where
@@ -46,6 +52,21 @@ room-for-block line g = rw (eq-eqb (getD line 0 0) 71 g)
 pub no-room-for-block : (begun : Bool) (room : ℕ) (line : List ℕ) → getD line 0 0 ≡ 71 → room < BLOCK-ROOM → askedLine begun room line ≡ asked.Refused 5
 unfolding askedLine
 no-room-for-block begun room line g h = rw (room-for-block line g, lt-ltb room BLOCK-ROOM h)
+
+-- refusal 3: "S after any taken line", so a session that has begun asks for no setup
+pub begun-asks : (l : List ℕ) → askedText true l ≡ asked.Setup → ⊥
+unfolding askedText askedBy askedOther askedSettings askedEvent
+begun-asks l = pick-each NoSetup (ltb 512 (length l)) (λ e. never (cc)) (said (eventOf l))
+  where
+    NoSetup : Asked → Type 0
+    NoSetup a = a ≡ asked.Setup → ⊥
+
+    said : (p : Parsed) → NoSetup (askedBy true l p)
+    said Wrong =
+        pick-each NoSetup (eqb (letterOf l) 83)
+        (pick-each NoSetup (eqb (settingsOf l .refusal) 4) (λ e. never (cc)) (λ e. never (cc)))
+        (λ e. never (cc))
+    said (Fine e) = pick-each NoSetup (eqb (refusalOf e (dataOf l)) 0) (λ q. never (cc)) (λ q. never (cc))
 
 module _ (s : Session) (line out : List ℕ) where
   pub setup-comes : askedLine (s .begun) (length out) line ≡ asked.Setup → Comes s line out (silentLine (setupLine line)) out

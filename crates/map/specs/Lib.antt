@@ -7,3 +7,4 @@ pub mod Slave
 pub mod Laws
 pub mod Facts
 pub mod Blocks
+pub mod FanBytes

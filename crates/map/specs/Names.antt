@@ -25,6 +25,12 @@ H-ERROR-STATUS-2 = 0x49
 abbrev pub H-FAN-ERROR-STATUS : ℕ
 H-FAN-ERROR-STATUS = 0x4F
 
+abbrev pub FAN-TACH-1-LSB : ℕ
+FAN-TACH-1-LSB = 0x6E
+
+abbrev pub FAN-TACH-1-MSB : ℕ
+FAN-TACH-1-MSB = 0x6F
+
 abbrev pub AD-IN1-LOW-LIMIT : ℕ
 AD-IN1-LOW-LIMIT = 0x90
 

@@ -34,6 +34,7 @@ pub record TemperatureKeeps (c d : Chip) (zone : ℕ) : Type 0 where
   pub zones : (i : ℕ) → i ≢ zone → zoneAt d i ≡ zoneAt c i
   pub volts : d .volts ≡ c .volts
   pub fans : d .fans ≡ c .fans
+  pub kept : d .kept ≡ c .kept
   pub hot : d .hot ≡ c .hot
   pub pin : d .pin ≡ c .pin
   pub drive : d .drive ≡ c .drive
@@ -44,12 +45,12 @@ zone-other c zone i r n = ap (λ (z : Zone). z .reading) (getD-set-other (c .zon
 
 temperature-same : (c : Chip) (zone : ℕ) → TemperatureKeeps c c zone
 temperature-same c zone =
-    record { setup = refl; registers = refl; zones = λ i n. refl; volts = refl; fans = refl; hot = refl; pin = refl; drive = refl }
+    record { setup = refl; registers = refl; zones = λ i n. refl; volts = refl; fans = refl; kept = refl; hot = refl; pin = refl; drive = refl }
 
 temperature-set : (c : Chip) (zone : ℕ) (r : Reading) → TemperatureKeeps c (withZone c zone r) zone
 unfolding withZone
 temperature-set c zone r =
-    record { setup = refl; registers = refl; zones = λ i n. zone-other c zone i r n; volts = refl; fans = refl; hot = refl; pin = refl; drive = refl }
+    record { setup = refl; registers = refl; zones = λ i n. zone-other c zone i r n; volts = refl; fans = refl; kept = refl; hot = refl; pin = refl; drive = refl }
 
 pub temperature-keeps : (c : Chip) (zone : ℕ) (r : Reading) → TemperatureKeeps c (tookTemperature c zone r) zone
 unfolding tookTemperature
@@ -65,13 +66,14 @@ pub record VoltageKeeps (c d : Chip) (channel : ℕ) : Type 0 where
   pub zones : (i : ℕ) → i < 4 → zoneAt d i ≡ zoneAt c i
   pub volts : (i : ℕ) → i ≢ channel → voltAt d i ≡ voltAt c i
   pub fans : d .fans ≡ c .fans
+  pub kept : d .kept ≡ c .kept
   pub hot : d .hot ≡ c .hot
   pub pin : d .pin ≡ c .pin
   pub drive : d .drive ≡ c .drive
 
 voltage-same : (c : Chip) (channel : ℕ) → VoltageKeeps c c channel
 voltage-same c channel =
-    record { setup = refl; registers = marks-none (c .registers); zones = λ i l. refl; volts = λ i o. refl; fans = refl; hot = refl; pin = refl; drive = refl }
+    record { setup = refl; registers = marks-none (c .registers); zones = λ i l. refl; volts = λ i o. refl; fans = refl; kept = refl; hot = refl; pin = refl; drive = refl }
 
 voltage-set : (c : Chip) (channel : ℕ) (n : Count) → channel < 16 → VoltageKeeps c (withRegisters (withVolt c channel n) (comparedVolt (c .registers) channel n)) channel
 unfolding withVolt voltAt zoneAt
@@ -81,6 +83,7 @@ voltage-set c channel n l = record {
   zones = λ i l. refl;
   volts = λ i o. ap (λ (g : Gauge). g .count) (getD-set-other (c .volts) channel i (record { count = n }) noGauge o);
   fans = refl;
+  kept = refl;
   hot = refl;
   pin = refl;
   drive = refl;
@@ -95,6 +98,7 @@ voltage-feeds c d channel zone r p k = record {
   zones = λ i l. zone-other d zone i r (λ e. omega arith) ∙ k .zones i l;
   volts = k .volts;
   fans = k .fans;
+  kept = k .kept;
   hot = k .hot;
   pin = k .pin;
   drive = k .drive;
@@ -126,6 +130,7 @@ pub record FanKeeps (c d : Chip) (fan : ℕ) : Type 0 where
   pub zones : d .zones ≡ c .zones
   pub volts : d .volts ≡ c .volts
   pub fans : (i : ℕ) → i ≢ fan → fanAt d i ≡ fanAt c i
+  pub kept : d .kept ≡ c .kept
   pub hot : d .hot ≡ c .hot
   pub pin : d .pin ≡ c .pin
   pub drive : d .drive ≡ c .drive
@@ -141,11 +146,12 @@ fan-keeps c fan n = go (ltb fan 4)
       zones = refl;
       volts = refl;
       fans = λ i o. ap (λ (g : Gauge). g .count) (getD-set-other (c .fans) fan i (record { count = n }) noGauge o);
+      kept = refl;
       hot = refl;
       pin = refl;
       drive = refl;
     }
-    go false = record { setup = refl; registers = marks-none (c .registers); zones = refl; volts = refl; fans = λ i o. refl; hot = refl; pin = refl; drive = refl }
+    go false = record { setup = refl; registers = marks-none (c .registers); zones = refl; volts = refl; fans = λ i o. refl; kept = refl; hot = refl; pin = refl; drive = refl }
 
 -- ---- H: one hot input
 
@@ -156,6 +162,7 @@ pub record HotKeeps (c d : Chip) (input : ℕ) : Type 0 where
   pub zones : d .zones ≡ c .zones
   pub volts : d .volts ≡ c .volts
   pub fans : d .fans ≡ c .fans
+  pub kept : d .kept ≡ c .kept
   pub hot : (i : ℕ) → i ≢ input → hotAt d i ≡ hotAt c i
   pub pin : d .pin ≡ c .pin
   pub drive : d .drive ≡ c .drive
@@ -168,6 +175,7 @@ hot-keeps c input hot = record {
   zones = refl;
   volts = refl;
   fans = refl;
+  kept = refl;
   hot = λ i o. getD-set-other (c .hot) input i hot false o;
   pin = refl;
   drive = refl;
@@ -182,6 +190,7 @@ pub record PinKeeps (c d : Chip) : Type 0 where
   pub zones : d .zones ≡ c .zones
   pub volts : d .volts ≡ c .volts
   pub fans : d .fans ≡ c .fans
+  pub kept : d .kept ≡ c .kept
   pub hot : d .hot ≡ c .hot
   pub latch : d .pin .latch ≡ c .pin .latch
   pub drive : d .drive ≡ c .drive
@@ -189,7 +198,7 @@ pub record PinKeeps (c d : Chip) : Type 0 where
 pub pin-keeps : (c : Chip) (level : ℕ) → PinKeeps c (tookPin c level)
 unfolding tookPin
 pin-keeps c level =
-    record { setup = refl; registers = refl; zones = refl; volts = refl; fans = refl; hot = refl; latch = refl; drive = refl }
+    record { setup = refl; registers = refl; zones = refl; volts = refl; fans = refl; kept = refl; hot = refl; latch = refl; drive = refl }
 
 -- ---- X and a tick's marks: registers alone
 
@@ -199,17 +208,18 @@ pub record RegistersAlone (c d : Chip) : Type 0 where
   pub zones : d .zones ≡ c .zones
   pub volts : d .volts ≡ c .volts
   pub fans : d .fans ≡ c .fans
+  pub kept : d .kept ≡ c .kept
   pub hot : d .hot ≡ c .hot
   pub pin : d .pin ≡ c .pin
   pub drive : d .drive ≡ c .drive
 
 pub reset-keeps : (c : Chip) → RegistersAlone c (tookReset c)
 unfolding tookReset
-reset-keeps c = record { setup = refl; zones = refl; volts = refl; fans = refl; hot = refl; pin = refl; drive = refl }
+reset-keeps c = record { setup = refl; zones = refl; volts = refl; fans = refl; kept = refl; hot = refl; pin = refl; drive = refl }
 
 pub missed-keeps : (c : Chip) → RegistersAlone c (missed c)
 unfolding missed
-missed-keeps c = record { setup = refl; zones = refl; volts = refl; fans = refl; hot = refl; pin = refl; drive = refl }
+missed-keeps c = record { setup = refl; zones = refl; volts = refl; fans = refl; kept = refl; hot = refl; pin = refl; drive = refl }
 
 -- X changes E3h and E4h alone, so no error bit
 pub reset-other : (file : List ℕ) (a : ℕ) → a ≢ CONFIGURATION → a ≢ SLEEP-STATE-CONTROL → getD (resetFile file) a 0 ≡ getD file a 0

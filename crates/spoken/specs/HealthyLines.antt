@@ -9,7 +9,6 @@ use Rattle.map.specs.Names.{CONFIGURATION, FIXED-BLOCK-0, FIXED-BLOCK-1, GMSK}
 use Rattle.state.specs.declared.Count.the-variants.{Missing}
 use Rattle.state.specs.Parts.{registerAt}
 use Rattle.state.specs.PowerOn.{defaultSetup}
-use Rattle.bus.specs.Read.{shownRegister}
 use Rattle.event.specs.declared.Tick.{Tick as Shown}
 use Rattle.event.specs.Lasting.{Sized, power-sized, step-sized}
 use Rattle.text.specs.Answers.{tickText}
@@ -20,6 +19,7 @@ use Rattle.line.specs.declared.Asked.the-variants as asked
 use Rattle.line.specs.Line.{Judged, startSession, askedText, refusedLine, begunLine, setupLine, eventLine, judgedBy, judgedLine, answerText}
 use Rattle.line.specs.Session.{sessionAfter, printedBy}
 use Rattle.theorems.specs.Sensors.{Sensor, isWatched, giving, bmcRegister, hostRegister, errorBit, LooksBroken}
+use Rattle.theorems.specs.ShownBytes.{ShowsBit}
 use Rattle.theorems.specs.Unread.{countAt, power-unread, step-unread, unread-broken}
 use Rattle.spoken.specs.TakenLine.{givenBy}
 use Rattle.spoken.specs.TickLine.{K, tick-line}
@@ -31,16 +31,16 @@ pub data NeverReadBy (x : Sensor) : Session → List (List ℕ) → Type 0 where
   none : {s : Session} → NeverReadBy x s []
   more : {s : Session} {l : List ℕ} {ls : List (List ℕ)} → ((n : ℕ) → askedText (s .begun) l ≡ asked.Event (giving x n) → ⊥) → NeverReadBy x (judgedLine s l .session) ls → NeverReadBy x s (l ∷ ls)
 
--- a line that is taken and prints a tick with an error, and with ALERT unless GMSK is set; after it both groups show the sensor's bit, and R
--- lines print it, and so do G lines of F2h, the BMC group, and of F3h, the Host group
+-- a line that is taken and prints a tick with an error, and with ALERT unless GMSK is set; after it both groups show the sensor's bit,
+-- to byte reads as in the dump, and R lines print it, and so do G lines of F2h, the BMC group, and of F3h, the Host group
 pub record PrintsBroken (x : Sensor) (line : Judged) : Type 0 where
   pub taken : line .refusal ≡ 0
   pub tick : Shown
   pub prints : (n : ℕ) → printedBy line n ≡ tickText (tick .alert) (tick .duty1) (tick .duty2) (tick .output1) (tick .output2) (tick .errors)
   pub alert : (T (isSet (registerAt (line .session .chip) CONFIGURATION) GMSK) → ⊥) → tick .alert ≡ true
   pub errors : 1 ≤ tick .errors
-  pub in-bmc : T (isSet (shownRegister (line .session .chip) (bmcRegister x)) (errorBit x))
-  pub in-host : T (isSet (shownRegister (line .session .chip) (hostRegister x)) (errorBit x))
+  pub in-bmc : ShowsBit (line .session .chip) (bmcRegister x) (errorBit x)
+  pub in-host : ShowsBit (line .session .chip) (hostRegister x) (errorBit x)
   pub read-bmc : PrintsBit (line .session) (bmcRegister x) (errorBit x)
   pub read-host : PrintsBit (line .session) (hostRegister x) (errorBit x)
   pub block-bmc : PrintsBitIn (line .session) FIXED-BLOCK-0 (bmcRegister x) (errorBit x)
@@ -59,8 +59,8 @@ broken-prints x s b = rw (tick-line s) (record {
   errors = b .errors;
   in-bmc = b .in-bmc;
   in-host = b .in-host;
-  read-bmc = bit-printed _ _ _ (b .in-bmc);
-  read-host = bit-printed _ _ _ (b .in-host);
+  read-bmc = bit-printed _ _ _ (b .in-bmc .0);
+  read-host = bit-printed _ _ _ (b .in-host .0);
   block-bmc = block-printed _ _ _ _ (b .block-bmc);
   block-host = block-printed _ _ _ _ (b .block-host);
 })

@@ -8,3 +8,4 @@ pub mod ReadLines
 pub mod BlockLines
 pub mod HealthyLines
 pub mod WrongLines
+pub mod WholeLines

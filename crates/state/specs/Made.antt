@@ -8,9 +8,10 @@ use Rattle.state.specs.declared.Drive.{Drive}
 use Rattle.state.specs.declared.Setup.{Setup}
 use Rattle.state.specs.declared.Zone.{Zone}
 use Rattle.state.specs.declared.Gauge.{Gauge}
+use Rattle.state.specs.declared.FanKept.{FanKept}
 use Rattle.state.specs.declared.Ramp.{Ramp}
 use Rattle.state.specs.PowerOn.{defaultSetup, powerOn}
-use Rattle.state.specs.With.{withRegisters, withZones, withVolts, withFans}
+use Rattle.state.specs.With.{withRegisters, withZones, withVolts, withFans, withKept}
 
 -- the chip at power-on without a setup
 abbrev pub fresh : Chip
@@ -27,10 +28,13 @@ ofZones file zones = withZones (ofRegisters file) zones
 abbrev pub ofReadings : List ℕ → List Zone → List Gauge → List Gauge → Chip
 ofReadings file zones volts fans = withFans (withVolts (ofZones file zones) volts) fans
 
+abbrev pub ofKept : List ℕ → List Zone → List Gauge → List Gauge → List FanKept → Chip
+ofKept file zones volts fans kept = withKept (ofReadings file zones volts fans) kept
+
 -- ---- what a tick looks at
 
 abbrev pub ofDrive : Setup → List ℕ → List Zone → List Bool → Drive → Chip
-ofDrive setup file zones hot drive = record { setup = setup; registers = file; zones = zones; volts = fresh .volts; fans = fresh .fans; hot = hot; pin = fresh .pin; drive = drive }
+ofDrive setup file zones hot drive = record { setup = setup; registers = file; zones = zones; volts = fresh .volts; fans = fresh .fans; kept = fresh .kept; hot = hot; pin = fresh .pin; drive = drive }
 
 -- its tables: of the drive the old steps
 abbrev pub ofTables : Setup → List ℕ → List Zone → List ℕ → Chip

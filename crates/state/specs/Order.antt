@@ -22,6 +22,7 @@ pub record Cooler (c d : Chip) : Type 0 where
   pub zones : (i : ℕ) → NoHotter (zoneAt c i) (zoneAt d i)
   pub volts : c .volts ≡ d .volts
   pub fans : c .fans ≡ d .fans
+  pub kept : c .kept ≡ d .kept
   pub hot : c .hot ≡ d .hot
   pub pin : c .pin ≡ d .pin
   pub drive : DriveNoHigher (c .drive) (d .drive)

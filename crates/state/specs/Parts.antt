@@ -1,5 +1,5 @@
 -- The parts of the chip that definitions read. Zones, channels, fans, inputs and tables count from 0. Past its end an array reads as
--- missing, off or 0, so each definition has an answer for every number. Assumes nothing.
+-- missing, none, off or 0, so each definition has an answer for every number. Assumes nothing.
 use mathlib.Core.Bool.{Bool, false}
 use Prim.Native.Nat.{ℕ}
 use lib.ListN.{getD}
@@ -10,6 +10,9 @@ use Rattle.state.specs.declared.Zone.{Zone}
 use Rattle.state.specs.declared.Gauge.{Gauge}
 use Rattle.state.specs.declared.Count.{Count}
 use Rattle.state.specs.declared.Count.the-variants as count
+use Rattle.state.specs.declared.KeptByte.{KeptByte}
+use Rattle.state.specs.declared.KeptByte.the-variants as kept
+use Rattle.state.specs.declared.FanKept.{FanKept}
 use Rattle.state.specs.declared.Ramp.{Ramp}
 use Rattle.state.specs.declared.ZoneBoost.{ZoneBoost}
 use Rattle.state.specs.declared.FanOverride.{FanOverride}
@@ -21,6 +24,9 @@ noZone = record { reading = reading.Missing }
 
 abbrev pub noGauge : Gauge
 noGauge = record { count = count.Missing }
+
+abbrev pub noKept : FanKept
+noKept = record { byte = kept.None }
 
 abbrev pub noRamp : Ramp
 noRamp = record { level = 0; wait = 0 }
@@ -46,6 +52,10 @@ voltAt c i = getD (c .volts) i noGauge .count
 -- the reading of fan i + 1
 unfoldable pub fanAt : Chip → ℕ → Count
 fanAt c i = getD (c .fans) i noGauge .count
+
+-- the high byte that is kept of fan i + 1
+unfoldable pub keptAt : Chip → ℕ → KeptByte
+keptAt c i = getD (c .kept) i noKept .byte
 
 -- hot input i + 1 is 1
 unfoldable pub hotAt : Chip → ℕ → Bool

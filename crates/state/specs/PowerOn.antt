@@ -1,4 +1,4 @@
--- The setup without a setup, and the chip at power-on (document 01, "Setup" and "Events"). Assumes nothing.
+-- The setup without a setup, and the chip at power-on (document 01, "Setup" and "Events"; document 02, Q-4). Assumes nothing.
 use mathlib.Core.Bool.{false}
 use mathlib.Core.List.{[], _∷_}
 use lib.IntN.{pos}
@@ -8,7 +8,7 @@ use Rattle.state.specs.declared.Chip.{Chip}
 use Rattle.state.specs.declared.Drive.{Drive}
 use Rattle.state.specs.declared.Setup.{Setup}
 use Rattle.state.specs.declared.Latch.the-variants as latch
-use Rattle.state.specs.Parts.{noZone, noGauge, noRamp, noBoost, noOverride}
+use Rattle.state.specs.Parts.{noZone, noGauge, noKept, noRamp, noBoost, noOverride}
 
 -- "Without a setup: level 0; bases 30; offsets 2; hystereses 2; duties 0, 64, 80 and so on by 16 to 240; no boost; boost hysteresis 3;
 -- bindings 17 and 4; no override; start duties 128; start counts 2."
@@ -40,6 +40,7 @@ atRest = record {
 
 -- "The state holds a register file of 256 bytes, filled at power-on from the defaults." "At power-on all readings are missing, hot
 -- inputs 0, duties, ramp levels, wait and start counts 0, boosts off, LOCK and GMSK clear, nothing latched."
+-- 02, Q-4: "One kept byte per fan joins the chip's state, power-on starts with none"
 unfoldable pub powerOn : Setup → Chip
 powerOn s = record {
   setup = s;
@@ -47,6 +48,7 @@ powerOn s = record {
   zones = replicate 6 noZone;
   volts = replicate 16 noGauge;
   fans = replicate 4 noGauge;
+  kept = replicate 4 noKept;
   hot = replicate 4 false;
   pin = record { level = s .level; latch = latch.Open };
   drive = atRest;

@@ -1,7 +1,7 @@
 // The chip's state: what a setup holds, what the chip holds, and the chip at power-on.
 ghost use mathlib.Core.Path.{_≡_};
 ghost use lib.ListN.{getD, set};
-ghost use Rattle.state.specs.Parts.{noZone, noGauge};
+ghost use Rattle.state.specs.Parts.{noZone, noGauge, noKept};
 ghost use Rattle.map.specs.Tables.{defaults};
 ghost use Rattle.state.specs.PowerOn.{defaultSetup, powerOn, atRest};
 ghost use Rattle.state.specs.Most.{DUTY-MOST};
@@ -29,6 +29,12 @@ pub enum Override {
     At(u16),
 }
 
+// The high byte of a fan count that a read of its low byte kept, or none.
+pub enum KeptByte {
+    None,
+    High(u8),
+}
+
 // What the address pin's level has been taken for: nothing yet, or the slave address.
 pub enum Latch {
     Open,
@@ -41,6 +47,10 @@ pub struct Zone {
 
 pub struct Gauge {
     pub count: Count,
+}
+
+pub struct FanKept {
+    pub byte: KeptByte,
 }
 
 pub struct ZoneBoost {
@@ -99,6 +109,7 @@ pub struct Chip {
     pub zones: [Zone; 6],
     pub volts: [Gauge; 16],
     pub fans: [Gauge; 4],
+    pub kept: [FanKept; 4],
     // VRD1, VRD2, PROCHOT1, PROCHOT2.
     pub hot: [bool; 4],
     pub pin: Pin,
@@ -346,9 +357,13 @@ fn new_chip(setup: Setup) -> Chip
     let gauge = Gauge {
         count: Count::Missing,
     };
+    let no_byte = FanKept {
+        byte: KeptByte::None,
+    };
     let zones = [zone; 6];
     let volts = [gauge; 16];
     let fans = [gauge; 4];
+    let kept = [no_byte; 4];
     let registers = default_registers();
     let drive = at_rest();
     Chip {
@@ -357,6 +372,7 @@ fn new_chip(setup: Setup) -> Chip
         zones: zones,
         volts: volts,
         fans: fans,
+        kept: kept,
         hot: [false; 4],
         pin: Pin {
             level: level,
@@ -445,6 +461,33 @@ pub fn with_reading(zones: [Zone; 6], zone: u8, reading: Reading) -> [Zone; 6]
     if at < 6 {
         let z = Zone { reading: reading };
         next[at] = z;
+    }
+    next
+}
+
+// ---- kept bytes; fans count from 0
+
+// A fan's kept byte; none where there is no such fan.
+pub fn kept_at(kept: [FanKept; 4], fan: u8) -> KeptByte
+    ensures { λ r. ⌜ r ≡ getD kept fan noKept .byte ⌝ }
+{
+    let at = fan as usize;
+    if at < 4 {
+        let k = kept[at];
+        return k.byte;
+    }
+    KeptByte::None
+}
+
+// The kept bytes with that of one fan replaced; unchanged where there is no such fan.
+pub fn with_kept_byte(kept: [FanKept; 4], fan: u8, byte: KeptByte) -> [FanKept; 4]
+    ensures { λ r. ⌜ r ≡ set kept fan (record { byte = byte }) ⌝ }
+{
+    let at = fan as usize;
+    let mut next = kept;
+    if at < 4 {
+        let k = FanKept { byte: byte };
+        next[at] = k;
     }
     next
 }

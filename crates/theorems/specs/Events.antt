@@ -28,10 +28,9 @@ use Rattle.sense.specs.Events.{zoneHeard, tookTemperature, feedsThree, feedsFou
 use Rattle.bus.specs.declared.Change.{Change}
 use Rattle.bus.specs.Latch.{isOurs, transacted}
 use Rattle.bus.specs.Write.{stored, cleared, zoneWritable, changeWhole, changeHalf, changeKind, isShut, changeHome, changeOf, changed, wroteRegister, Written, wroteByte}
-use Rattle.bus.specs.Read.{readByte}
+use Rattle.bus.specs.Read.{keptChip, Seen, readByte, kept-by-parts}
 use Rattle.bus.specs.Block.{blockFor, readBlock, countedBlock, wroteBy, wroteBlock}
 use Rattle.bus.specs.Blocks.{both-keep}
-use Rattle.bus.specs.Transactions.{read-chip}
 use Rattle.theorems.specs.Beside.{ZonesCooler, zones-set, Under, same-but, beside, under-beside}
 
 -- ---- c, beside a chip d that differs from it in zones and drive
@@ -92,6 +91,10 @@ module _ (c : Chip) {zs : List Zone} {x : Drive} (z : ZonesCooler (c .zones) zs)
   unfolding transacted
   transacted-under address = same-but z n
 
+  -- R, the kept bytes: the fan counts and those kept before are the same
+  kept-under : (a : ℕ) → Under (keptChip c a) (keptChip d a)
+  kept-under a = rw (kept-by-parts c d a) (same-but z n)
+
   -- W, what it changes of two chips
   abbrev Alters : Change → Change → Type 0
   Alters v w = Under (changed c v) (changed d w)
@@ -138,7 +141,11 @@ module _ (c : Chip) {zs : List Zone} {x : Drive} (z : ZonesCooler (c .zones) zs)
 
   -- R
   pub read-under : (address a : ℕ) → Under (readByte c address a .chip) (readByte (beside c zs x) address a .chip)
-  read-under address a = rw (read-chip c address a, read-chip (beside c zs x) address a) (transacted-under c z n address)
+  unfolding readByte transacted
+  read-under address a =
+      pick-related (λ (v w : Seen). Under (v .chip) (w .chip)) (isOurs (transacted c address .pin .latch) address)
+      (kept-under (transacted c address) z n a)
+      (transacted-under c z n address)
 
   -- G
   pub read-block-under : (address command : ℕ) → Under (readBlock c address command .chip) (readBlock (beside c zs x) address command .chip)

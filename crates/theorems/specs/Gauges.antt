@@ -19,7 +19,7 @@ use Rattle.sense.specs.Missing.{missed}
 use Rattle.sense.specs.Events.{feedsThree, feedsFour, fedZone, tookVoltage, tookFan}
 use Rattle.sense.specs.Keeps.{temperature-keeps, voltage-keeps, fan-keeps, hot-keeps, pin-keeps, reset-keeps, missed-keeps}
 use Rattle.laws.specs.Never.{never}
-use Rattle.bus.specs.Transactions.{write-keeps, read-keeps, read-block-keeps, write-block, after, afterAll, all-kept}
+use Rattle.bus.specs.Transactions.{write-keeps, read-keeps, read-block-keeps, write-block, after, afterAll, transactions-keep}
 use Rattle.drive.specs.TickOrder.{tick-keeps}
 use Rattle.event.specs.declared.Event.{Event}
 use Rattle.event.specs.declared.Event.the-variants.{Temperature, Voltage, Fan, Hot, Pin, Tick, Reset, Write, Read, ReadBlock, WriteBlock}
@@ -57,11 +57,11 @@ gives Reset = neither (λ c bytes. record { volts = reset-keeps c .volts; fans =
 gives (Write address a byte) =
     neither (λ c bytes. let k = write-keeps c address a byte in record { volts = k .volts; fans = k .fans })
 gives (Read address a) =
-    neither (λ c bytes. let k = read-keeps c address a .kept in record { volts = k .volts; fans = k .fans })
+    neither (λ c bytes. let k = read-keeps c address a .keeps in record { volts = k .volts; fans = k .fans })
 gives (ReadBlock address command) =
-    neither (λ c bytes. let k = read-block-keeps c address command .kept in record { volts = k .volts; fans = k .fans })
+    neither (λ c bytes. let k = read-block-keeps c address command .rest .keeps in record { volts = k .volts; fans = k .fans })
 gives (WriteBlock address command) =
-    neither (λ c bytes. let k = all-kept c (write-block address command bytes ∷ []) in record { volts = k .volts; fans = k .fans })
+    neither (λ c bytes. let k = transactions-keep c (write-block address command bytes ∷ []) in record { volts = k .volts; fans = k .fans })
 
 -- ---- V and F
 

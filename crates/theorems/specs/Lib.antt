@@ -17,6 +17,8 @@ pub mod BoundTables
 pub mod ZoneReadings
 pub mod FollowedZones
 pub mod MissingZones
+pub mod UnreadFans
+pub mod WholeCounts
 pub mod LockMarks
 pub mod LockKeeps
 pub mod LockHolds

@@ -48,7 +48,7 @@ module _ (c : Chip) (locked : T (isSet (registerAt c CONFIGURATION) LOCK)) where
   taken-same Reset bytes n = absurd (n refl)
   taken-same (Write address a byte) bytes n = record { marked = all-locked c locked (write address a byte ∷ []) .marked }
   taken-same (Read address a) bytes n = same-file _ (read-keeps c address a .registers)
-  taken-same (ReadBlock address command) bytes n = same-file _ (read-block-keeps c address command .registers)
+  taken-same (ReadBlock address command) bytes n = same-file _ (read-block-keeps c address command .rest .registers)
   taken-same (WriteBlock address command) bytes n = record { marked = all-locked c locked (write-block address command bytes ∷ []) .marked }
 
   pub step-same : (g : Given) → (g .event ≡ Reset → ⊥) → Same c (givenStep c g .chip)

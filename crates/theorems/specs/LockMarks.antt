@@ -1,4 +1,5 @@
--- Lock-marked registers: each shows the byte that the register file holds, and is no error status register. Assumes nothing.
+-- Lock-marked registers: each shows the byte that the register file holds, at present and to byte reads, and is no error status register.
+-- Assumes nothing.
 use mathlib.Core.Path.{_≡_, refl}
 use mathlib.Core.Bool.{Bool, true, false, not}
 use Prim.Native.Nat.{ℕ, _<_}
@@ -13,10 +14,11 @@ use Rattle.map.specs.declared.Kind.the-variants.{Plain, Status, Whole, Half, Vo
 use Rattle.map.specs.Tables.{lockMarks, homes}
 use Rattle.map.specs.Map.{lockMarked, homeOf}
 use Rattle.map.specs.Kind.{kindOf}
+use Rattle.map.specs.FanBytes.{byteOfKind, fanByteAt}
 use Rattle.state.specs.declared.Chip.{Chip}
 use Rattle.state.specs.Parts.{registerAt}
 use Rattle.sense.specs.Marks.{Status as ErrorStatus}
-use Rattle.bus.specs.Read.{shownKind, shownRegister}
+use Rattle.bus.specs.Read.{shownKind, shownRegister, givenAt, givenRegister}
 use Rattle.laws.specs.Never.{never}
 use Rattle.theorems.specs.ShownBytes.{own-shown, status-kind}
 
@@ -62,6 +64,11 @@ marked-plain a m = plain (kindOf a) .1 (marked-test (λ a. plain (kindOf a) .0) 
 pub marked-shown : (c : Chip) (a : ℕ) → T (lockMarked a) → shownRegister c a ≡ registerAt c a
 unfolding shownKind
 marked-shown c a m = rw (own-shown c a (marked-home a m), marked-plain a m)
+
+-- and is read so, since it is not the high byte of a fan
+pub marked-read : (c : Chip) (a : ℕ) → T (lockMarked a) → givenRegister c a ≡ registerAt c a
+unfolding givenRegister givenAt fanByteAt byteOfKind
+marked-read c a m = rw (marked-home a m, marked-plain a m) (marked-shown c a m)
 
 -- and is no error status register
 pub marked-no-status : (a : ℕ) → T (lockMarked a) → ErrorStatus a → ⊥

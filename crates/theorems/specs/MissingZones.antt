@@ -10,6 +10,7 @@ use Rattle.map.specs.Tables.{homes}
 use Rattle.map.specs.Map.{homeOf}
 use Rattle.map.specs.Bits.{isSet}
 use Rattle.map.specs.Kind.{kindOf}
+use Rattle.map.specs.FanBytes.{byteOfKind, fanByteAt}
 use Rattle.temperature.specs.declared.Reading.the-variants.{Missing}
 use Rattle.temperature.specs.Temperature.{wholeByte, halfSet}
 use Rattle.state.specs.declared.Chip.{Chip}
@@ -19,7 +20,7 @@ use Rattle.state.specs.Parts.{noOverride, zoneAt}
 use Rattle.state.specs.PowerOn.{powerOn}
 use Rattle.state.specs.Powered.{poweredOn, powered-valid}
 use Rattle.sense.specs.Missing.{missed}
-use Rattle.bus.specs.Read.{halfByte, shownKind, shownHome, shownRegister}
+use Rattle.bus.specs.Read.{halfByte, shownKind, shownHome, shownRegister, givenAt, givenRegister}
 use Rattle.drive.specs.Tick.{followed, dutyOf}
 use Rattle.event.specs.declared.Event.the-variants.{Tick}
 use Rattle.event.specs.declared.Answer.the-variants.{Ticked}
@@ -28,6 +29,7 @@ use Rattle.event.specs.Event.{steppedChip}
 use Rattle.event.specs.Run.{Given, givenStep, chipAfter}
 use Rattle.event.specs.Ticking.{tickShown, tick-answers}
 use Rattle.theorems.specs.Taken.{IsTaken}
+use Rattle.theorems.specs.ShownBytes.{Shows}
 use Rattle.theorems.specs.Zones.{zoneOf, ZoneMissing, GivesZone}
 use Rattle.theorems.specs.FollowedZones.{followed-tells}
 use Rattle.theorems.specs.BoundTables.{missing-duty}
@@ -46,14 +48,14 @@ pub data ShowsAt : ℕ → ℕ → ℕ → ℕ → Type 0 where
 
 -- "Missing shows 80h with half bit 0", at every address of each zone
 pub missing-shows : {z whole mirror half : ℕ} → ShowsAt z whole mirror half → (c : Chip) → zoneAt c z ≡ Missing
-    → (shownRegister c whole ≡ 0x80) × (shownRegister c mirror ≡ 0x80) × (shownRegister c half ≡ 0x00)
-unfolding shownRegister shownHome shownKind halfByte wholeByte halfSet kindOf homeOf homes
-missing-shows zone-1a c m = rw m (refl, refl, refl)
-missing-shows zone-1b c m = rw m (refl, refl, refl)
-missing-shows zone-2a c m = rw m (refl, refl, refl)
-missing-shows zone-2b c m = rw m (refl, refl, refl)
-missing-shows zone-3 c m = rw m (refl, refl, refl)
-missing-shows zone-4 c m = rw m (refl, refl, refl)
+    → Shows c whole 0x80 × Shows c mirror 0x80 × Shows c half 0x00
+unfolding givenRegister givenAt fanByteAt byteOfKind shownRegister shownHome shownKind halfByte wholeByte halfSet kindOf homeOf homes
+missing-shows zone-1a c m = rw m ((refl, refl), (refl, refl), (refl, refl))
+missing-shows zone-1b c m = rw m ((refl, refl), (refl, refl), (refl, refl))
+missing-shows zone-2a c m = rw m ((refl, refl), (refl, refl), (refl, refl))
+missing-shows zone-2b c m = rw m ((refl, refl), (refl, refl), (refl, refl))
+missing-shows zone-3 c m = rw m ((refl, refl), (refl, refl), (refl, refl))
+missing-shows zone-4 c m = rw m ((refl, refl), (refl, refl), (refl, refl))
 
 -- ---- what it asks of the fans
 

@@ -12,13 +12,13 @@ use Rattle.state.specs.declared.Count.the-variants.{Taken}
 use Rattle.state.specs.Parts.{registerAt}
 use Rattle.sense.specs.Errors.{lowLimit, highLimit, fanLimitAt}
 use Rattle.sense.specs.Missing.{voltWatched, fanWatched}
-use Rattle.bus.specs.Read.{shownRegister}
 use Rattle.bus.specs.Block.{blockBytes}
 use Rattle.event.specs.declared.Event.{Event}
 use Rattle.event.specs.declared.Event.the-variants.{Voltage, Fan, Tick, ReadBlock}
 use Rattle.event.specs.declared.Answer.the-variants.{Ticked, Block}
 use Rattle.event.specs.declared.Tick.{Tick as Shown}
 use Rattle.event.specs.Event.{steppedChip}
+use Rattle.theorems.specs.ShownBytes.{ShowsBit}
 
 -- a voltage channel or a fan, each counted from 0
 pub data Sensor : Type 0 where
@@ -61,14 +61,14 @@ abbrev pub BlocksShow : Chip → ℕ → ℕ → ℕ → Type 0
 BlocksShow c command a bit =
     (address first count : ℕ) → steppedChip c (ReadBlock address command) [] .answer ≡ Block first count → InBlock (steppedChip c (ReadBlock address command) [] .chip) first count a bit
 
--- a K given to the chip: what it answers tells of an error, with ALERT unless GMSK is set, and after it byte reads of both groups show the
--- sensor's bit, and so do block reads of F2h, the BMC group, and of F3h, the Host group. All of them have no bytes beside them; up to 32 would
--- make no difference (`step-alone`)
+-- a K given to the chip: what it answers tells of an error, with ALERT unless GMSK is set, and after it both groups show the sensor's bit, to
+-- byte reads as in the dump, and so do block reads of F2h, the BMC group, and of F3h, the Host group. All of them have no bytes beside them;
+-- up to 32 would make no difference (`step-alone`)
 pub record LooksBroken (x : Sensor) (c : Chip) : Type 0 where
   pub tick : Shown
   pub answers : steppedChip c Tick [] .answer ≡ Ticked tick
-  pub in-bmc : T (isSet (shownRegister (steppedChip c Tick [] .chip) (bmcRegister x)) (errorBit x))
-  pub in-host : T (isSet (shownRegister (steppedChip c Tick [] .chip) (hostRegister x)) (errorBit x))
+  pub in-bmc : ShowsBit (steppedChip c Tick [] .chip) (bmcRegister x) (errorBit x)
+  pub in-host : ShowsBit (steppedChip c Tick [] .chip) (hostRegister x) (errorBit x)
   pub block-bmc : BlocksShow (steppedChip c Tick [] .chip) FIXED-BLOCK-0 (bmcRegister x) (errorBit x)
   pub block-host : BlocksShow (steppedChip c Tick [] .chip) FIXED-BLOCK-1 (hostRegister x) (errorBit x)
   pub alert : (T (isSet (registerAt (steppedChip c Tick [] .chip) CONFIGURATION) GMSK) → ⊥) → tick .alert ≡ true

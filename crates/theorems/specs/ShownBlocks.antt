@@ -1,4 +1,4 @@
--- A block read shows each register of its block as a byte read shows it. Assumes nothing.
+-- A block read shows the present byte of each register of its block. Assumes nothing.
 use mathlib.Core.Path.{_≡_, sym, _∙_}
 use mathlib.Core.List.{[]}
 use Prim.Native.Nat.{ℕ, _+_, _-_, _≤_, _<_}
@@ -13,7 +13,7 @@ use Rattle.bus.specs.BlockPart.{block-at, block-part}
 use Rattle.event.specs.Blocks.{shown-for, shown-part}
 use Rattle.theorems.specs.Sensors.{BlocksShow}
 
--- where a byte read shows a bit of a register of the block, so does each G of its command that is acknowledged
+-- where a register of the block shows a bit at present, so does each G of its command that is acknowledged
 pub blocks-show : (c : Chip) (command a bit : ℕ) {first count : ℕ} → blockOf command ≡ Fixed first count → first ≤ a → a < first + count → T (isSet (shownRegister c a) bit) → BlocksShow c command a bit
 blocks-show c command a bit {first} {count} listed l h t address f n acknowledged =
     let named = shown-for c address command [] acknowledged .listed in

@@ -21,14 +21,13 @@ use Rattle.state.specs.PowerOn.{powerOn}
 use Rattle.sense.specs.Missing.{missed}
 use Rattle.sense.specs.Marks.{Status, Stands}
 use Rattle.sense.specs.Alerts.{Alerts, volt-alerts, fan-alerts, missed-volt-stands, missed-fan-stands}
-use Rattle.bus.specs.Read.{shownRegister}
 use Rattle.event.specs.declared.Event.the-variants.{Tick}
 use Rattle.event.specs.Event.{steppedChip}
 use Rattle.event.specs.Run.{Given, givenStep}
 use Rattle.event.specs.Ticking.{tick-leaves, tickShown, tick-answers}
 use Rattle.theorems.specs.Taken.{IsTaken}
 use Rattle.theorems.specs.Gauges.{volt-stays, fan-stays}
-use Rattle.theorems.specs.ShownBytes.{status-shown}
+use Rattle.theorems.specs.ShownBytes.{ShowsBit, status-shown, status-read}
 use Rattle.theorems.specs.ShownBlocks.{blocks-show}
 use Rattle.theorems.specs.Sensors.{Sensor, volt, fan, isWatched, giving, bmcRegister, hostRegister, errorBit, LooksBroken}
 
@@ -75,9 +74,11 @@ host-place (fan i l) = (omega arith, omega arith)
 
 module _ (x : Sensor) (c : Chip) where
   -- a bit that stands in the file after the tick is shown
-  bit-shown : {a : ℕ} → Status a → T (isSet (registerAt (missed c) a) (errorBit x)) → T (isSet (shownRegister (steppedChip c Tick [] .chip) a) (errorBit x))
+  bit-shown : {a : ℕ} → Status a → T (isSet (registerAt (missed c) a) (errorBit x)) → ShowsBit (steppedChip c Tick [] .chip) a (errorBit x)
   unfolding registerAt
-  bit-shown {a} s t = rw (status-shown (steppedChip c Tick [] .chip) a s, tick-leaves c .registers) t
+  bit-shown {a} s t =
+      let after = steppedChip c Tick [] .chip in
+      (rw (status-read after a s, tick-leaves c .registers) t, rw (status-shown after a s, tick-leaves c .registers) t)
 
   -- a bit that the missing marks leave standing
   stands-broken : Stands (missed c .registers) (bmcRegister x) (hostRegister x) (errorBit x) → Alerts (missed c .registers) → LooksBroken x c
@@ -87,16 +88,16 @@ module _ (x : Sensor) (c : Chip) where
     answers = tick-answers c;
     in-bmc = bmc;
     in-host = host;
-    block-bmc = blocks-show _ _ _ _ refl (bmc-place x .0) (bmc-place x .1) bmc;
-    block-host = blocks-show _ _ _ _ refl (host-place x .0) (host-place x .1) host;
+    block-bmc = blocks-show _ _ _ _ refl (bmc-place x .0) (bmc-place x .1) (bmc .1);
+    block-host = blocks-show _ _ _ _ refl (host-place x .0) (host-place x .1) (host .1);
     alert = rw (tick-leaves c .registers) (λ clear. a .alert ∙ is-true _ (not-T (isSet (registerAt (missed c) CONFIGURATION) GMSK) clear));
     errors = rw (tick-leaves c .registers) (ltb-true 0 _ (a .counted));
   }
     where
-      bmc : T (isSet (shownRegister (steppedChip c Tick [] .chip) (bmcRegister x)) (errorBit x))
+      bmc : ShowsBit (steppedChip c Tick [] .chip) (bmcRegister x) (errorBit x)
       bmc = bit-shown (bmc-status x) (s .bmc)
 
-      host : T (isSet (shownRegister (steppedChip c Tick [] .chip) (hostRegister x)) (errorBit x))
+      host : ShowsBit (steppedChip c Tick [] .chip) (hostRegister x) (errorBit x)
       host = bit-shown (host-status x) (s .host)
 
 -- a watched sensor without a reading

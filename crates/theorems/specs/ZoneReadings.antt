@@ -98,7 +98,7 @@ module _ (c : Chip) (z : ℕ) (m : Lost z c) where
   taken-lost Reset bytes none i = zones-lost _ (reset-keeps c .zones)
   taken-lost (Write address a byte) bytes none i = write-lost c z m address a byte (λ o w. none (written o w))
   taken-lost (Read address a) bytes none i = zones-lost _ (read-keeps c address a .zones)
-  taken-lost (ReadBlock address command) bytes none i = zones-lost _ (read-block-keeps c address command .zones)
+  taken-lost (ReadBlock address command) bytes none i = zones-lost _ (read-block-keeps c address command .rest .zones)
   taken-lost (WriteBlock address command) bytes none i = block-lost c z m address command bytes (λ first k o l h w. none (in-block o l h w))
 
   -- so does any event that gives it none, where it is taken

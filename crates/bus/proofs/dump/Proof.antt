@@ -1,4 +1,4 @@
--- `bus::dump` meets its contract: the buffer is filled from the front with what byte reads show. Assumes nothing.
+-- `bus::dump` meets its contract: the buffer is filled from the front with the present bytes. Assumes nothing.
 use mathlib.Core.Path.{_≡_, refl, ap, _∙_}
 use mathlib.Core.List.{_++_}
 use Prim.Native.Nat.{_-_, _≤_}

@@ -231,8 +231,8 @@ transact-requires-2 c κs = search needs
 answers-requires-2 : tie.Need-answers-requires-2
 answers-requires-2 c κs = search needs
 
-show-register-requires : tie.Need-show-register-requires
-show-register-requires c κs = search needs
+read-register-requires : tie.Need-read-register-requires
+read-register-requires c κs = search needs
 
 enum-known-event-8 : tie.Need-enum-known-event-8
 enum-known-event-8 c = search needs
@@ -382,11 +382,11 @@ returns-14 c =
 returns-15 : tie.Need-returns-15
 unfolding takenStep readAnswer seenAnswer
 returns-15 c =
-    let ours = c .before .before .before .before .before .before in
+    let ours = c .before .before .before .before .before .before .before .before in
     let t = ours .before .before in
     let g = t .before .before .before in
     let p = passed (g .before .before .before .is-taken .ensures) (g .before .before .if1 .taken) (g .event7 .given .1) in
-    taken-step p _ (rw (read-by-parts, ← t .transact2 .ensures, sym (ours .before .answers2 .ensures) ∙ ours .if6 .taken, ← c .show-register .ensures))
+    taken-step p _ (rw (read-by-parts, ← t .transact2 .ensures, sym (ours .before .answers2 .ensures) ∙ ours .if6 .taken, ← c .before .read-register .ensures))
 
 returns-16 : tie.Need-returns-16
 unfolding takenStep readAnswer seenAnswer
@@ -498,7 +498,7 @@ step-spec =
     enum-known-event-7
     transact-requires-2
     answers-requires-2
-    show-register-requires
+    read-register-requires
     enum-known-event-8
     transact-requires-3
     block-read-requires

@@ -1,9 +1,8 @@
 use mathlib.Core.Path.{_≡_}
-use Prim.Native.Nat.{_≤_}
 use native.Mathlib.Omega.{arith}
-use lib.ListN.{length, List·getD-eq-default}
+use lib.ListN.{length}
 use Rattle.state.specs.Parts.{noGauge}
-use Rattle.state.proofs.Lengths.{unmapped}
+use Rattle.state.proofs.Lengths.{unmapped, read-past}
 use borrow.Author.Needs.{needs}
 use Rattle.state.proofs.volt_at.Statement.{statement}
 use Rattle.state.proofs.volt_at.Tie as tie
@@ -21,8 +20,7 @@ returns-2 : tie.Need-returns-2
 returns-2 c =
     let l = c .before .args .t1 in
     let n : length l ≡ 16 = search (needs, unmapped) in
-    let past : length l ≤ c .before .args .channel = omega arith in
-    rw (List·getD-eq-default l noGauge past)
+    rw (read-past l (c .before .args .channel) noGauge n (omega arith))
 
 pub volt-at-spec : {M : Type 1} → statement M
 volt-at-spec = tie.close (tie.spec mul-gauge array-copy-out-gauge returns returns-2)

@@ -1,9 +1,8 @@
 use mathlib.Core.Path.{_≡_}
-use Prim.Native.Nat.{_≤_}
 use native.Mathlib.Omega.{arith}
-use lib.ListN.{length, List·getD-eq-default}
+use lib.ListN.{length}
 use Rattle.state.specs.Parts.{noZone}
-use Rattle.state.proofs.Lengths.{unmapped}
+use Rattle.state.proofs.Lengths.{unmapped, read-past}
 use borrow.Author.Needs.{needs}
 use Rattle.state.proofs.zone_at.Statement.{statement}
 use Rattle.state.proofs.zone_at.Tie as tie
@@ -21,8 +20,7 @@ returns-2 : tie.Need-returns-2
 returns-2 c =
     let l = c .before .args .t1 in
     let n : length l ≡ 6 = search (needs, unmapped) in
-    let past : length l ≤ c .before .args .zone = omega arith in
-    rw (List·getD-eq-default l noZone past)
+    rw (read-past l (c .before .args .zone) noZone n (omega arith))
 
 pub zone-at-spec : {M : Type 1} → statement M
 zone-at-spec = tie.close (tie.spec mul-z array-copy-out-z returns returns-2)
