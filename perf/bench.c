@@ -1,5 +1,5 @@
-// The bench's job as a plain C program, written from documents 01 and 02 and the data sheet's register list for comparison: same input,
-// same output. It shares nothing with the Rattle sources. usage: bench < session
+// The bench's job as a plain C program, written from documents 01 and 02 and the data sheet's register list for comparison: same
+// input, same output. It shares nothing with the Rattle sources. usage: bench < session
 #include <stdint.h>
 #include <stdio.h>
 #include <string.h>
@@ -63,6 +63,7 @@ struct chip {
     uint8_t reg[256];
     int zone[6]; // 1a, 1b, 2a, 2b, 3, 4 in half degrees
     int volt[16], fan[4], hot[4];
+    int kept[4];        // the high byte of each fan's count that a read of its low byte kept, or MISSING for none
     int level, latched; // the pin; the slave address, or 0
     int step[4], boosted[6], ramp[4], wait[4], duty[2], start[2];
 };
@@ -74,7 +75,7 @@ static void power_on(struct chip *c, const struct setup *s)
     memcpy(c->reg, initial, 256);
     for (int i = 0; i < 6; i++) c->zone[i] = MISSING;
     for (int i = 0; i < 16; i++) c->volt[i] = MISSING;
-    for (int i = 0; i < 4; i++) c->fan[i] = MISSING;
+    for (int i = 0; i < 4; i++) c->fan[i] = c->kept[i] = MISSING;
     c->level = s->level;
 }
 
@@ -193,6 +194,22 @@ static int read_register(const struct chip *c, int a)
         return a % 2 ? n >> 6 : n << 2 & 0xFF;
     }
     return c->reg[a];
+}
+
+// "A read of a fan count's low byte shall keep the matching high byte; the next read of that high byte gives the kept one and drops it."
+static int read_byte(struct chip *c, int a)
+{
+    int b = read_register(c, a);
+    if (a >= 0x6E && a <= 0x75) {
+        int *kept = &c->kept[(a - 0x6E) / 2];
+        if (a % 2 == 0) {
+            *kept = read_register(c, a + 1);
+        } else if (*kept != MISSING) {
+            b = *kept;
+            *kept = MISSING;
+        }
+    }
+    return b;
 }
 
 // the fixed blocks, commands F2h to FDh
@@ -466,7 +483,7 @@ static inline __attribute__((always_inline)) int take_line(struct chip *c, int *
         v = transact(c, a);
         put_char('R');
         put_number(v);
-        if (v) put_hex(read_register(c, r));
+        if (v) put_hex(read_byte(c, r));
         else put_no_byte();
         put_char('\n');
         break;

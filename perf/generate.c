@@ -274,8 +274,50 @@ static void write_own(int a, int b)
     byte(b);
 }
 
+// ---- fan counts
+
+static int fan_count(void) { return one_in(6) ? below(64) : one_in(6) ? between(16320, 16383) : below(16384); }
+
+static void fan_event(int fan)
+{
+    add("F");
+    number(fan + 1);
+}
+
+static void read_fan(int address, int fan, int high)
+{
+    add("R");
+    byte(address);
+    byte(0x6E + 2 * fan + high);
+}
+
+static int other_address(void)
+{
+    int a;
+    do a = one_in(4) ? below(128) : between(0x2C, 0x2F);
+    while (a == own_address());
+    return a;
+}
+
+static void refused_fan_line(int fan)
+{
+    switch (below(4)) {
+    case 0: fan_event(one_in(2) ? -1 : 4); number(fan_count()); break;
+    case 1: fan_event(fan); number(one_in(2) ? -1 : 16384); break;
+    case 2: read_fan(own_address() | 0x80, fan, below(2)); break;
+    default: read_fan(own_address(), fan, below(2)); misspell();
+    }
+    refused = 1;
+}
+
+// ---- scenes
+
 // Lines that belong together, parted by spaces. G and P: a right block line, of the command that ends in that digit or, for ?, of one that the
-// scene keeps. O: an odd block line. Z: a write of 31h. L: one that sets LOCK. H: one of a half bit. R: a read of zone 3 or 4. Others: events.
+// scene keeps. O: an odd block line. Z: a write of 31h. L: one that sets LOCK. H: one of a half bit. R: a read of zone 3 or 4.
+// Of a fan, a or b of the two that the scene keeps: l and h: a read of its low or high byte. u: of either, for another address. f: its count.
+// s: a count with the high byte that the scene keeps. m: missing. w: a write of either byte. e: a refused line.
+// n: a read of a register beside them, or of any. N: a block line of the fan counts that is not acknowledged. *: one of what may stand between two reads of a
+// count. Others: events.
 static const char *const scenes[] = {
     "O O", "O O", "O O O", "O O O", "O O O", "O O G?", "P? O O G?", "O P? O G?", "O A O G?", "G?", "G? G? P? G?", "P? G?", "P? K G?",
     "G2 G3 G4 G5 G7",
@@ -287,24 +329,45 @@ static const char *const scenes[] = {
 static const char *const first_scenes[] = {
     "O A O A G? P?", "A O A O G? P?", "O S O A O G?", "O O S A G? P?", "A S O S O A G?", "G? A G? A G? S", "P? S A P? G?",
 };
+static const char *const fan_scenes[] = {
+    "fa la fa ha ha", "fa la fa ha fa ha", "fa la ha ha", "la ha fa ha", "la fa ha", "fa ha la fa ha", "ha ha la ha", "fa la", "fa la fa",
+    "fa la fa la ha ha", "fa la fa la fa ha", "la fa la ma ha", "fa la la fa ha", "la ma la fa ha ha", "fa la ma la fa ha",
+    "ma la fa ha ha", "fa la ma ha ha", "ma la ma ha", "ma la fa ma ha", "fa la ma fa ha",
+    "sa la sa ha", "sa la sa fa ha ha", "sa la fa sa ha ha", "ma la sa ha fa ha", "sa la ma ha",
+    "fa fb la lb fa fb ha hb", "fa fb la lb fb fa hb ha hb ha", "fa fb la lb ha fa fb hb", "fa fb la fa fb hb ha", "la hb fa fb lb ha hb",
+    "fa la * fa ha", "fa la fa * ha ha", "fa la * fa * ha", "fa la fa * * ha", "fa la * fa * * ha ha", "fa la * * fa * ha", "fa la * * * fa ha",
+    "fa la fa * * * ha", "la * fa * ha * ha", "ma la * fa * ha", "fa la * ma * ha", "fa la fa * la * fa ha", "fa la * fa la * fa ha",
+    "fa * fa ha", "fa * * fa ha", "fa ha * * fa ha", "fa la ha * fa ha", "fa la fa ha * * fa ha",
+    "fa fb la lb * fa fb * ha hb", "fa fb la lb fb fa * * hb * ha",
+};
+static const char *const between_reads[] = {
+    "X", "X", "K", "A", "T", "O", "O", "O", "S", "G7", "G7", "G7", "G?", "P7", "P7", "P?", "N", "N", "n", "n",
+    "ma", "fa", "sa", "mb", "fb", "wa", "wa", "wb", "ua", "ua", "ua", "ub", "ea", "ea", "eb", "lb", "hb",
+};
+static const char *const first_fan_scenes[] = {
+    "la fa ha", "ha fa la fa ha", "fa la fa ha", "ua la fa ha", "fa ua A fa ha la fa ha", "A ua A fa la fa ha", "la A fa ha", "ea S la fa ha",
+    "ea ea S fa la fa S ha", "S fa la fa S ha", "la S fa ha ha",
+};
 static const char *const long_scenes[] = {"G9 G9 G9 G9 G9 G9 G9 G9", "G9 G9 G9 G9 P9 P9 P9 O", "GC G5 G9 G9 V K"};
 
 static const char *scene = ""; // what is left of it
-static int scene_command;
+static int scene_command, scene_high, scene_fans[2];
 
 static int command_at(const char *digit)
 {
     return *digit == '?' ? scene_command : 0xF0 + (*digit <= '9' ? *digit - '0' : *digit - 'A' + 10);
 }
 
-static void scene_line(void)
+static int fan_at(const char *letter) { return scene_fans[*letter == 'b']; }
+
+static void line_of(const char *at)
 {
     static const int sources[] = {0x00, 0x01, 0x02, 0x03, 0x10, 0x10, 0x12, 0x13};
-    int command;
-    switch (*scene) {
-    case 'G': read_block(own_address(), command_at(scene + 1)); break;
+    int command, address, fan = fan_at(at + 1);
+    switch (*at) {
+    case 'G': read_block(own_address(), command_at(at + 1)); break;
     case 'P':
-        command = command_at(scene + 1);
+        command = command_at(at + 1);
         write_block(own_address(), command, counts[command - 0xF2], counts[command - 0xF2]);
         break;
     case 'O': odd_block_line(); break;
@@ -319,7 +382,26 @@ static void scene_line(void)
     case 'K': event_line(K); break;
     case 'X': add("X"); break;
     case 'S': setup_line(); break;
+    case 'l': read_fan(own_address(), fan, 0); break;
+    case 'h': read_fan(own_address(), fan, 1); break;
+    case 'u': address = other_address(); read_fan(address, fan, below(2)); break;
+    case 'f': fan_event(fan); number(fan_count()); break;
+    case 's': fan_event(fan); number(64 * scene_high + below(64)); break;
+    case 'm': fan_event(fan); field("-"); break;
+    case 'w': address = 0x6E + 2 * fan + below(2); write_own(address, some_byte(address)); break;
+    case 'e': refused_fan_line(fan); break;
+    case 'n': add("R"); byte(own_address()); byte(one_in(2) ? 0x6D + 9 * below(2) : some_register()); break;
+    case 'N':
+        if (one_in(2)) address = other_address(), read_block(address, 0xF7);
+        else write_block(own_address(), 0xF7, 7, 7);
+        break;
+    case '*': line_of(between_reads[below(sizeof between_reads / sizeof between_reads[0])]); break;
     }
+}
+
+static void scene_line(void)
+{
+    line_of(scene);
     scene += strcspn(scene, " ");
     scene += *scene == ' ';
 }
@@ -328,7 +410,12 @@ static void begin_scene(const char *const *from, int n)
 {
     scene = from[below(n)];
     scene_command = between(0xF2, 0xFD);
+    scene_high = one_in(3) ? 0xFF * below(2) : below(256);
+    scene_fans[0] = below(4);
+    scene_fans[1] = (scene_fans[0] + between(1, 3)) % 4;
 }
+
+#define BEGIN(list) begin_scene(list, sizeof list / sizeof list[0])
 
 // keeps the guess after a line
 static void follow(void)
@@ -359,20 +446,23 @@ static void damage(void)
     }
 }
 
-// with_blocks: block reads and writes stand between the events, in a few sessions so many that neither they nor their answers fit into 16 KiB
-static void session(int with_blocks)
+// with_scenes: block reads and writes, and reads of fan counts, stand between the events, in a few sessions so many block lines that neither
+// they nor their answers fit into 16 KiB
+static void session(int with_scenes)
 {
     int lines = between(1, 120), bad = below(4) * 5, begin = 0, more = 0;
-    if (with_blocks) {
-        begin = one_in(4) ? between(10, 60) : 3;
+    if (with_scenes) {
+        begin = one_in(2) ? between(20, 80) : 10;
         if ((more = one_in(30))) lines = between(200, 900), begin = 95;
-        else if (one_in(2)) begin_scene(first_scenes, sizeof first_scenes / sizeof first_scenes[0]);
+        else if (one_in(2)) BEGIN(first_scenes);
+        else if (one_in(2)) BEGIN(first_fan_scenes);
     }
     for (int i = 0; i < lines; i++) {
         len = refused = 0;
         if (!*scene && begin && below(100) < begin) {
-            if (more) begin_scene(long_scenes, sizeof long_scenes / sizeof long_scenes[0]);
-            else begin_scene(scenes, sizeof scenes / sizeof scenes[0]);
+            if (more) BEGIN(long_scenes);
+            else if (one_in(2)) BEGIN(scenes);
+            else BEGIN(fan_scenes);
         }
         if ((i == 0 && one_in(2)) || one_in(60)) setup_line();
         else if (*scene && !one_in(8)) scene_line();
