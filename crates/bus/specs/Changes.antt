@@ -63,6 +63,7 @@ module _ (c : Chip) (a byte : ℕ) where
 pub record BusKeeps (c d : Chip) : Type 0 where
   pub setup : d .setup ≡ c .setup
   pub volts : d .volts ≡ c .volts
+  pub erring : d .erring ≡ c .erring
   pub fans : d .fans ≡ c .fans
   pub hot : d .hot ≡ c .hot
   pub level : d .pin .level ≡ c .pin .level
@@ -70,7 +71,7 @@ pub record BusKeeps (c d : Chip) : Type 0 where
 
 -- whatever registers, zones, kept bytes and latch it gets
 pub bus-keeps-but : (c : Chip) (r : List ℕ) (z : List Zone) (k : List FanKept) (l : Latch) → BusKeeps c (withPin (withKept (withZones (withRegisters c r) z) k) (record { level = c .pin .level; latch = l }))
-bus-keeps-but c r z k l = record { setup = refl; volts = refl; fans = refl; hot = refl; level = refl; drive = refl }
+bus-keeps-but c r z k l = record { setup = refl; volts = refl; erring = refl; fans = refl; hot = refl; level = refl; drive = refl }
 
 -- a chip keeps its own, and what is kept twice is kept
 pub bus-keeps-self : (c : Chip) → BusKeeps c c
@@ -80,6 +81,7 @@ pub bus-keeps-on : {c d e : Chip} → BusKeeps c d → BusKeeps d e → BusKeeps
 bus-keeps-on p q = record {
   setup = q .setup ∙ p .setup;
   volts = q .volts ∙ p .volts;
+  erring = q .erring ∙ p .erring;
   fans = q .fans ∙ p .fans;
   hot = q .hot ∙ p .hot;
   level = q .level ∙ p .level;
@@ -104,7 +106,8 @@ change-kept c Nothing = refl
 change-kept c (Register a byte) = refl
 change-kept c (ZoneReading i r) = refl
 
--- a write to a register keeps the setup, the voltages, the fan counts, the hot inputs, the pin's level and the drive
+-- a write to a register keeps the setup, the voltages, whether they are in error, the fan counts, the hot inputs, the pin's level and the
+-- drive
 pub register-keeps : (c : Chip) (a byte : ℕ) → BusKeeps c (wroteRegister c a byte)
 unfolding wroteRegister
 register-keeps c a byte = change-keeps c (changeOf c a byte)

@@ -78,7 +78,7 @@ module _ (c : Chip) (address : ℕ) where
       go true = q
       go false = p
 
-  -- a write keeps the setup, the voltages, the fan counts, the hot inputs, the pin's level and the drive
+  -- a write keeps the setup, the voltages, whether they are in error, the fan counts, the hot inputs, the pin's level and the drive
   pub write-keeps : (a byte : ℕ) → BusKeeps c (wroteByte c address a byte .chip)
   write-keeps a byte =
       write-cases (BusKeeps c) a byte (transacted-keeps .rest .keeps) (bus-keeps-on (transacted-keeps .rest .keeps) (register-keeps (transacted c address) a byte))
@@ -143,7 +143,8 @@ module _ (P : Chip → Type 0)
   all-keep [] c p = p
   all-keep (t ∷ ts) c p = all-keep ts (after c t) (after-keeps c t p)
 
--- no list of transactions changes the setup, the voltages, the fan counts, the hot inputs, the pin's level or the drive
+-- no list of transactions changes the setup, the voltages, whether they are in error, the fan counts, the hot inputs, the pin's level or
+-- the drive
 pub transactions-keep : (c : Chip) (ts : List Transaction) → BusKeeps c (afterAll c ts)
 transactions-keep c ts =
     all-keep (BusKeeps c) (λ d address k. bus-keeps-on k (transacted-keeps d address .rest .keeps)) (λ d a k. bus-keeps-on k (bus-keeps-but d _ _ _ _)) (λ d a byte k. bus-keeps-on k (register-keeps d a byte)) ts c (bus-keeps-self c)

@@ -211,8 +211,8 @@ errors-standing = determined (λ κs a r e p. p)
 pub alert-active : Result alert-active-promise
 alert-active = determined (λ κs a r e p. p)
 
-pub compare-voltage : Left compare-voltage-promise (λ κs e. now (e .0))
-compare-voltage = determined (λ κs a r e p. p)
+pub compare-voltage : ResultAnd compare-voltage-promise (λ κs e. now (e .0))
+compare-voltage = determined (λ κs a r e p. both p)
 
 pub compare-count : Left compare-count-promise (λ κs e. now (e .0))
 compare-count = determined (λ κs a r e p. p)

@@ -2,5 +2,6 @@ pub mod Determined
 pub mod Said
 pub mod Printed
 pub mod PrintedBlocks
+pub mod PrintedVolts
 pub mod PrintedFans
 pub mod ProvedCases

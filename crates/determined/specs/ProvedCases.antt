@@ -33,6 +33,7 @@ use Rattle.event.specs.Session.{session, answers, session-answers}
 use Rattle.line.specs.Line.{startSession}
 use Rattle.line.specs.Session.{printedFrom}
 use Rattle.determined.specs.Printed.{input, output, printed}
+use Rattle.determined.specs.PrintedVolts.{voltInput, voltOutput, volts-printed}
 use Rattle.determined.specs.PrintedFans.{fanInput, fanOutput, fans-printed}
 use Rattle.determined.specs.PrintedBlocks.{blockInput, blockOutput, blocks-printed, RepliesIn, rooms, too-many}
 
@@ -43,6 +44,13 @@ freshWith a byte = withRegister fresh a byte
 -- the errors standing after a count of channel 7, whose limits at 9Ch and 9Dh are 80 and 100
 abbrev pub sevenAt : ℕ → ℕ
 sevenAt n = errorsStanding (tookVoltage (withRegister (freshWith 0x9C 80) 0x9D 100) 6 (Taken n) .registers)
+
+-- the errors standing after two counts of channel 7, its bit cleared in both groups between them; by its limits and BCh, whose bits 2 to 0
+-- are VH
+abbrev pub sevenAgain : ℕ → ℕ → ℕ → ℕ → ℕ → ℕ
+sevenAgain low high vh first second =
+    let bounded = withRegister (withRegister (freshWith 0x9C low) 0x9D high) 0xBC vh in
+    errorsStanding (tookVoltage (withRegister (withRegister (tookVoltage bounded 6 (Taken first)) 0x41 0x00) 0x49 0x00) 6 (Taken second) .registers)
 
 -- the chip after a count of channel 11, which feeds zone 3 while INT_AD11 is set in 31h
 abbrev pub eleven : ℕ → Chip → Chip
@@ -93,6 +101,27 @@ pub record Cases : Type 0 where
   pub block-rooms : RepliesIn 127 (71 ∷ 71 ∷ []) 5 0 × RepliesIn 128 (71 ∷ 71 ∷ []) 4 0 × RepliesIn 127 (71 ∷ 9 ∷ 50 ∷ 67 ∷ 9 ∷ 70 ∷ 54 ∷ []) 5 0 × RepliesIn 128 (71 ∷ 9 ∷ 50 ∷ 67 ∷ 9 ∷ 70 ∷ 54 ∷ []) 0 19 × RepliesIn 64 (80 ∷ 9 ∷ 50 ∷ 67 ∷ 9 ∷ 70 ∷ 50 ∷ 9 ∷ 48 ∷ 48 ∷ []) 0 4
   -- "more than 32 data bytes .. is 4", beside an event too, and before 2
   pub block-too-many : (refusalOf (WriteBlock 0x80 0xF2) (replicate 33 0) ≡ 4) × (refusalOf (WriteBlock 0x80 0xF2) (replicate 32 0) ≡ 2)
+  -- ---- document 02, Q-2, "Voltage hysteresis as the chip has it"
+  -- V lines of channel 7 with its bits read and cleared between them, from power-on: their bytes, and those that they print
+  pub voltages : printedFrom startSession 1 voltInput ≡ voltOutput
+  -- "The channel 7 cases hold for VH 0": in error before, too
+  pub seven-unheld : (sevenAgain 80 100 0 79 79 ≡ 1) × (sevenAgain 80 100 0 79 101 ≡ 1) × (sevenAgain 80 100 0 79 80 ≡ 0) × (sevenAgain 80 100 0 79 100 ≡ 0)
+  -- "with VH 2, after 79 an 81 still sets the bit and an 82 does not"
+  pub seven-below : (sevenAgain 80 100 2 79 81 ≡ 1) × (sevenAgain 80 100 2 79 82 ≡ 0)
+  -- "at most high minus VH": after 101 a 99 still sets the bit and a 98 does not
+  pub seven-above : (sevenAgain 80 100 2 101 99 ≡ 1) × (sevenAgain 80 100 2 101 98 ≡ 0)
+  -- "at least low plus VH and at most high minus VH", whichever limit was passed: after 79 a 99 still sets the bit and a 98 does not, and
+  -- after 101 an 81 and an 82
+  pub seven-across : (sevenAgain 80 100 2 79 99 ≡ 1) × (sevenAgain 80 100 2 79 98 ≡ 0) × (sevenAgain 80 100 2 101 81 ≡ 1) × (sevenAgain 80 100 2 101 82 ≡ 0)
+  -- "in error from a taken reading outside its limits": after 80 an 81 sets none
+  pub seven-sound : sevenAgain 80 100 2 80 81 ≡ 0
+  -- "A low limit of 00h and a high limit of FFh are not moved": with 00h a 0 ends it; a high limit of 100 beside it is moved, and so is 01h
+  pub low-unmoved : (sevenAgain 0x00 100 2 101 0 ≡ 0) × (sevenAgain 0x00 100 2 101 99 ≡ 1) × (sevenAgain 0x01 100 2 101 2 ≡ 1) × (sevenAgain 0x01 100 2 101 3 ≡ 0)
+  -- with FFh a 255 ends it; a low limit of 80 beside it is moved, and so is FEh
+  pub high-unmoved : (sevenAgain 80 0xFF 2 79 255 ≡ 0) × (sevenAgain 80 0xFF 2 79 81 ≡ 1) × (sevenAgain 80 0xFE 2 79 253 ≡ 1) × (sevenAgain 80 0xFE 2 79 252 ≡ 0)
+  -- "low plus VH", "high minus VH", of plain numbers: FEh plus 3 is 257, 01h minus 3 is below 0, and 80 plus 2 is above 83 minus 2; 7Bh has
+  -- VH 3
+  pub never-ended : (sevenAgain 0xFE 0xFF 3 0 255 ≡ 1) × (sevenAgain 0x00 0x01 0x7B 2 0 ≡ 1) × (sevenAgain 80 83 2 79 81 ≡ 1) × (sevenAgain 80 83 2 79 82 ≡ 1)
   -- ---- document 02, Q-4, "Fan counts that are not torn"
   -- R lines of fan counts with F, X and G lines between them, from power-on: their bytes, and those that they print
   pub fan-counts : printedFrom startSession 1 fanInput ≡ fanOutput
@@ -107,7 +136,7 @@ unfolding tookReset resetFile registerAt withRegister powerOn atRest defaultSetu
 limit = refl
 
 pub all : Cases
-unfolding sense.errorsAt sense.limited sense.sourced bus.written bus.zoneThree tookPin
+unfolding sense.errorsAt sense.limited sense.errorsAgain sense.readTwice sense.bounded sense.sourced bus.written bus.zoneThree tookPin
 all = record {
   lines = printed;
   events = session-answers;
@@ -129,5 +158,14 @@ all = record {
   blocks = blocks-printed;
   block-rooms = rooms;
   block-too-many = too-many;
+  voltages = volts-printed;
+  seven-unheld = (sense.channel-seven-unheld .0, sense.channel-seven-unheld .3, sense.channel-seven-unheld .1, sense.channel-seven-unheld .2);
+  seven-below = (sense.channel-seven-held .0, sense.channel-seven-held .1);
+  seven-above = (sense.channel-seven-held .2, sense.channel-seven-held .3);
+  seven-across = (sense.channel-seven-held .4, sense.channel-seven-held .5, sense.channel-seven-held .6, sense.channel-seven-held .7);
+  seven-sound = sense.channel-seven-held .8;
+  low-unmoved = (sense.not-moved .0, sense.not-moved .1, sense.not-moved .2, sense.not-moved .3);
+  high-unmoved = (sense.not-moved .4, sense.not-moved .5, sense.not-moved .6, sense.not-moved .7);
+  never-ended = (sense.none-ends .1, sense.none-ends .2, sense.none-ends .3, sense.none-ends .4);
   fan-counts = fans-printed;
 }

@@ -28,6 +28,7 @@ pub record SameButDrive (c d : Chip) : Type 0 where
   pub registers : c .registers ≡ d .registers
   pub zones : c .zones ≡ d .zones
   pub volts : c .volts ≡ d .volts
+  pub erring : c .erring ≡ d .erring
   pub fans : c .fans ≡ d .fans
   pub kept : c .kept ≡ d .kept
   pub hot : c .hot ≡ d .hot
@@ -36,7 +37,7 @@ pub record SameButDrive (c d : Chip) : Type 0 where
 -- a tick changes nothing but the drive
 pub tick-keeps : (c : Chip) → SameButDrive (tickedChip c .chip) c
 unfolding tickedChip
-tick-keeps c = record { setup = refl; registers = refl; zones = refl; volts = refl; fans = refl; kept = refl; hot = refl; pin = refl }
+tick-keeps c = record { setup = refl; registers = refl; zones = refl; volts = refl; erring = refl; fans = refl; kept = refl; hot = refl; pin = refl }
 
 -- the duties that a tick leaves are the two fans' duties
 pub tick-duties : (c : Chip) (fan : ℕ) → fan < 2 → getD (tickedChip c .chip .drive .duties) fan 0 ≡ dutyOf c fan
@@ -117,6 +118,7 @@ module _ {c d : Chip} (v : Valid (c .setup)) (k : Cooler c d) where
     registers = k .registers;
     zones = k .zones;
     volts = k .volts;
+    erring = k .erring;
     fans = k .fans;
     kept = k .kept;
     hot = k .hot;

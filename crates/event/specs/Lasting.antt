@@ -58,6 +58,7 @@ pub record Sized (c : Chip) : Type 0 where
   pub registers : length (c .registers) ≡ 256
   pub zones : length (c .zones) ≡ 6
   pub volts : length (c .volts) ≡ 16
+  pub erring : length (c .erring) ≡ 16
   pub fans : length (c .fans) ≡ 4
   pub kept : length (c .kept) ≡ 4
   pub hot : length (c .hot) ≡ 4
@@ -74,6 +75,7 @@ power-sized s = record {
   registers = ap length defaults-tab ∙ tab-long defaultOf 256;
   zones = refl;
   volts = refl;
+  erring = refl;
   fans = refl;
   kept = refl;
   hot = refl;
@@ -90,6 +92,7 @@ module _ {c : Chip} (s : Sized c) where
     registers = p .registers ∙ s .registers;
     zones = p .zones ∙ s .zones;
     volts = p .volts ∙ s .volts;
+    erring = p .erring ∙ s .erring;
     fans = p .fans ∙ s .fans;
     kept = p .kept ∙ s .kept;
     hot = p .hot ∙ s .hot;
@@ -106,6 +109,7 @@ module _ {c : Chip} (s : Sized c) where
     registers = s .registers;
     zones = s .zones;
     volts = s .volts;
+    erring = s .erring;
     fans = s .fans;
     kept = s .kept;
     hot = s .hot;

@@ -16,11 +16,12 @@ use Rattle.state.specs.declared.FanKept.{FanKept}
 use Rattle.state.specs.declared.Pin.{Pin}
 use Rattle.state.specs.declared.Count.{Count}
 use Rattle.state.specs.declared.Count.the-variants as count
-use Rattle.state.specs.Parts.{registerAt}
-use Rattle.state.specs.With.{withRegisters, withPin, withRegister, withZone, withVolt, withFan, withHotInput}
-use Rattle.sense.specs.Errors.{withBit, markedVolt, markedFan, lowLimit, highLimit, isOutside, comparedVolt, fanLimitAt, comparedFan}
+use Rattle.state.specs.Parts.{registerAt, inError}
+use Rattle.state.specs.With.{withRegisters, withPin, withRegister, withZone, withVolt, withInError, withFan, withHotInput}
+use Rattle.sense.specs.Errors.{withBit, markedVolt, markedFan, lowLimit, highLimit, fanLimitAt, comparedFan}
+use Rattle.sense.specs.Hysteresis.{erringAfter, erredVolt}
 use Rattle.sense.specs.Missing.{voltWatched, fanWatched, missedVolt, missedFan, missedVolts, missedFans, missedFile, missed}
-use Rattle.sense.specs.Events.{zoneHeard, tookTemperature, feedsThree, feedsFour, fedZone, tookVoltage, tookFan, tookHot, tookPin, resetFile, tookReset}
+use Rattle.sense.specs.Events.{zoneHeard, tookTemperature, fedZone, fed-each, readVolt, tookVoltage, tookFan, tookHot, tookPin, resetFile, tookReset}
 use Rattle.bus.specs.Latch.{transacted}
 use Rattle.bus.specs.declared.Change.{Change}
 use Rattle.bus.specs.declared.Change.the-variants.{Nothing, Register, ZoneReading}
@@ -41,17 +42,18 @@ pub record SameShape (c d : Chip) : Type 0 where
   pub registers : length (d .registers) ≡ length (c .registers)
   pub zones : length (d .zones) ≡ length (c .zones)
   pub volts : length (d .volts) ≡ length (c .volts)
+  pub erring : length (d .erring) ≡ length (c .erring)
   pub fans : length (d .fans) ≡ length (c .fans)
   pub kept : length (d .kept) ≡ length (c .kept)
   pub hot : length (d .hot) ≡ length (c .hot)
   pub drive : d .drive ≡ c .drive
 
 -- whatever its pin, and whatever its lists, if they are as long
-shape-but : (c : Chip) {r : List ℕ} {z : List Zone} {v f : List Gauge} {k : List FanKept} {h : List Bool} {p : Pin} → length r ≡ length (c .registers) → length z ≡ length (c .zones) → length v ≡ length (c .volts) → length f ≡ length (c .fans) → length k ≡ length (c .kept) → length h ≡ length (c .hot) → SameShape c (record { setup = c .setup; registers = r; zones = z; volts = v; fans = f; kept = k; hot = h; pin = p; drive = c .drive })
-shape-but c a b d e g i = record { setup = refl; registers = a; zones = b; volts = d; fans = e; kept = g; hot = i; drive = refl }
+shape-but : (c : Chip) {r : List ℕ} {z : List Zone} {v f : List Gauge} {k : List FanKept} {e h : List Bool} {p : Pin} → length r ≡ length (c .registers) → length z ≡ length (c .zones) → length v ≡ length (c .volts) → length e ≡ length (c .erring) → length f ≡ length (c .fans) → length k ≡ length (c .kept) → length h ≡ length (c .hot) → SameShape c (record { setup = c .setup; registers = r; zones = z; volts = v; erring = e; fans = f; kept = k; hot = h; pin = p; drive = c .drive })
+shape-but c a b d e g i j = record { setup = refl; registers = a; zones = b; volts = d; erring = e; fans = g; kept = i; hot = j; drive = refl }
 
 pub shape-self : (c : Chip) → SameShape c c
-shape-self c = shape-but c refl refl refl refl refl refl
+shape-self c = shape-but c refl refl refl refl refl refl refl
 
 shape-on : {c d e : Chip} → SameShape c d → SameShape d e → SameShape c e
 shape-on p q = record {
@@ -59,6 +61,7 @@ shape-on p q = record {
   registers = q .registers ∙ p .registers;
   zones = q .zones ∙ p .zones;
   volts = q .volts ∙ p .volts;
+  erring = q .erring ∙ p .erring;
   fans = q .fans ∙ p .fans;
   kept = q .kept ∙ p .kept;
   hot = q .hot ∙ p .hot;
@@ -69,7 +72,7 @@ shape-on p q = record {
 
 module _ (c : Chip) where
   shape-registers : (f : List ℕ) → length f ≡ length (c .registers) → SameShape c (withRegisters c f)
-  shape-registers f e = shape-but c e refl refl refl refl refl
+  shape-registers f e = shape-but c e refl refl refl refl refl refl
 
   shape-register : (a b : ℕ) → SameShape c (withRegister c a b)
   unfolding withRegister
@@ -77,25 +80,29 @@ module _ (c : Chip) where
 
   shape-zone : (i : ℕ) (r : Reading) → SameShape c (withZone c i r)
   unfolding withZone
-  shape-zone i r = shape-but c refl (length-set (c .zones) i _) refl refl refl refl
+  shape-zone i r = shape-but c refl (length-set (c .zones) i _) refl refl refl refl refl
 
   shape-volt : (i : ℕ) (n : Count) → SameShape c (withVolt c i n)
   unfolding withVolt
-  shape-volt i n = shape-but c refl refl (length-set (c .volts) i _) refl refl refl
+  shape-volt i n = shape-but c refl refl (length-set (c .volts) i _) refl refl refl refl
+
+  shape-erring : (i : ℕ) (e : Bool) → SameShape c (withInError c i e)
+  unfolding withInError
+  shape-erring i e = shape-but c refl refl refl (length-set (c .erring) i e) refl refl refl
 
   shape-fan : (i : ℕ) (n : Count) → SameShape c (withFan c i n)
   unfolding withFan
-  shape-fan i n = shape-but c refl refl refl (length-set (c .fans) i _) refl refl
+  shape-fan i n = shape-but c refl refl refl refl (length-set (c .fans) i _) refl refl
 
   shape-read : (a : ℕ) → SameShape c (keptChip c a)
-  shape-read a = shape-but c refl refl refl refl (kept-many c a) refl
+  shape-read a = shape-but c refl refl refl refl refl (kept-many c a) refl
 
   shape-hot : (i : ℕ) (h : Bool) → SameShape c (withHotInput c i h)
   unfolding withHotInput
-  shape-hot i h = shape-but c refl refl refl refl refl (length-set (c .hot) i h)
+  shape-hot i h = shape-but c refl refl refl refl refl refl (length-set (c .hot) i h)
 
   shape-pin : (p : Pin) → SameShape c (withPin c p)
-  shape-pin p = shape-but c refl refl refl refl refl refl
+  shape-pin p = shape-but c refl refl refl refl refl refl refl
 
 -- ---- the register file stays as long
 
@@ -110,10 +117,10 @@ marked-fan-long : (file : List ℕ) (i : ℕ) → AsLong file (markedFan file i)
 unfolding markedFan withBit
 marked-fan-long file i = simp length-set
 
-compared-volt-long : (file : List ℕ) (i : ℕ) (n : Count) → AsLong file (comparedVolt file i n)
-unfolding comparedVolt
-compared-volt-long file i count.Missing = refl
-compared-volt-long file i (count.Taken n) = pick-each (AsLong file) (isOutside (lowLimit file i) (highLimit file i) n) (marked-volt-long file i) refl
+erred-volt-long : (file : List ℕ) (i : ℕ) (before : Bool) (n : Count) → AsLong file (erredVolt file i before n)
+unfolding erredVolt
+erred-volt-long file i before count.Missing = refl
+erred-volt-long file i before (count.Taken n) = pick-each (AsLong file) (erringAfter file i before (count.Taken n)) (marked-volt-long file i) refl
 
 compared-fan-long : (file : List ℕ) (i : ℕ) (n : Count) → AsLong file (comparedFan file i n)
 unfolding comparedFan
@@ -154,10 +161,7 @@ change-shape c (ZoneReading i r) = shape-zone c i r
 
 module _ (c : Chip) where
   fed-shape : (channel : ℕ) (n : Count) → SameShape c (fedZone c channel n)
-  unfolding fedZone
-  fed-shape channel n =
-      pick-each (SameShape c) (feedsThree (registerAt c TEMPERATURE-SOURCE-SELECT) channel) (shape-zone c 4 _)
-      (pick-each (SameShape c) (feedsFour (registerAt c TEMPERATURE-SOURCE-SELECT) channel) (shape-zone c 5 _) (shape-self c))
+  fed-shape channel n = fed-each (SameShape c) c channel n (shape-zone c 4 _) (shape-zone c 5 _) (shape-self c)
 
   transacted-shape : (address : ℕ) → SameShape c (transacted c address)
   unfolding transacted
@@ -178,12 +182,15 @@ module _ (c : Chip) where
   temperature-shape zone r =
       pick-each (SameShape c) (zoneHeard (registerAt c TEMPERATURE-SOURCE-SELECT) zone) (shape-zone c zone r) (shape-self c)
 
+  volt-shape : (channel : ℕ) (n : Count) → SameShape c (readVolt c channel n)
+  unfolding readVolt withVolt
+  volt-shape channel n =
+      shape-on (shape-on (shape-volt c channel n) (shape-registers (withVolt c channel n) _ (erred-volt-long (c .registers) channel (inError c channel) n))) (shape-erring _ channel _)
+
   voltage-shape : (channel : ℕ) (n : Count) → SameShape c (tookVoltage c channel n)
-  unfolding tookVoltage withVolt
+  unfolding tookVoltage
   voltage-shape channel n =
-      pick-each (SameShape c) (ltb channel 16)
-      (shape-on (shape-on (shape-volt c channel n) (shape-registers (withVolt c channel n) _ (compared-volt-long (c .registers) channel n))) (fed-shape _ channel n))
-      (shape-self c)
+      pick-each (SameShape c) (ltb channel 16) (shape-on (volt-shape channel n) (fed-shape _ channel n)) (shape-self c)
 
   fan-shape : (fan : ℕ) (n : Count) → SameShape c (tookFan c fan n)
   unfolding tookFan withFan

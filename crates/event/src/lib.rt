@@ -258,7 +258,9 @@ pub fn step(chip: Chip, event: Event, bytes: &[u8]) -> Stepped
                 let at = channel - 1;
                 let gauge = Gauge { count: count };
                 next.volts[at as usize] = gauge;
-                sense::compare_voltage(&mut next.registers, at, count);
+                let before = next.erring[at as usize];
+                let erring = sense::compare_voltage(&mut next.registers, at, before, count);
+                next.erring[at as usize] = erring;
                 let source = next.registers[registers::TEMPERATURE_SOURCE_SELECT as usize];
                 let z = Zone {
                     reading: sense::volt_reading(count),

@@ -65,7 +65,19 @@ fn same_kept(a: [FanKept; 4], b: [FanKept; 4]) -> bool {
     same_at(a, b, 0) && same_at(a, b, 1) && same_at(a, b, 2) && same_at(a, b, 3)
 }
 
-// The dump of the one is the port's, of the other the one by value. A dump does not show the kept bytes, so they are compared beside it.
+fn same_erring(a: [bool; 16], b: [bool; 16]) -> bool {
+    let mut i: usize = 0;
+    while i < 16 {
+        if a[i] != b[i] {
+            return false;
+        }
+        i += 1;
+    }
+    true
+}
+
+// The dump of the one is the port's, of the other the one by value. A dump shows neither the kept bytes nor which channels are in error, so
+// they are compared beside it.
 fn same_chip(held: Chip, moved: Chip) -> bool {
     let mut a = [0u8; REGISTERS];
     let mut b = [0u8; REGISTERS];
@@ -73,7 +85,11 @@ fn same_chip(held: Chip, moved: Chip) -> bool {
     event::dump(moved, &mut b);
     let held_kept = held.kept;
     let moved_kept = moved.kept;
-    check::same(&a, &b) && same_kept(held_kept, moved_kept)
+    let held_erring = held.erring;
+    let moved_erring = moved.erring;
+    check::same(&a, &b)
+        && same_kept(held_kept, moved_kept)
+        && same_erring(held_erring, moved_erring)
 }
 
 fn same_session(held: Session, moved: Session) -> bool {

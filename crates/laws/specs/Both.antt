@@ -8,6 +8,10 @@ pub both-false : (b : Bool) → both b false ≡ false
 both-false true = refl
 both-false false = refl
 
+pub both-with-true : (b : Bool) → both b true ≡ b
+both-with-true true = refl
+both-with-true false = refl
+
 pub both-left : (a b : Bool) → both a b ≡ true → a ≡ true
 both-left true b e = refl
 both-left false b e = e

@@ -1,13 +1,14 @@
 -- What comes of a line, by what it asks for. Assumes nothing.
-use mathlib.Core.Path.{_≡_}
-use mathlib.Core.Bool.{Bool, true}
+use mathlib.Core.Path.{_≡_, refl}
+use mathlib.Core.Bool.{Bool, true, false}
 use mathlib.Core.List.{List}
 use Prim.Native.Nat.{ℕ, _≤_, _<_}
 use native.Mathlib.Omega.{arith}
 use lib.Dec.{eqb, ltb}
 use lib.ListN.{length, getD}
-use borrow.Author.Tests.{eq-eqb, ne-eqb, lt-ltb, le-ltb}
+use borrow.Author.Tests.{eq-eqb, ne-eqb, eqb-true, lt-ltb, le-ltb}
 use Rattle.laws.specs.Never.{never}
+use Rattle.laws.specs.Pick.{pick}
 use Rattle.laws.specs.Pointwise.{pick-each}
 use Rattle.event.specs.declared.Event.{Event}
 use Rattle.event.specs.Event.{refusalOf}
@@ -67,6 +68,28 @@ begun-asks l = pick-each NoSetup (ltb 512 (length l)) (λ e. never (cc)) (said (
         (pick-each NoSetup (eqb (settingsOf l .refusal) 4) (λ e. never (cc)) (λ e. never (cc)))
         (λ e. never (cc))
     said (Fine e) = pick-each NoSetup (eqb (refusalOf e (dataOf l)) 0) (λ q. never (cc)) (λ q. never (cc))
+
+-- an event that a line asks for is not refused
+pub asks-taken : (begun : Bool) (l : List ℕ) (e : Event) → askedText begun l ≡ asked.Event e → refusalOf e (dataOf l) ≡ 0
+unfolding askedText askedBy askedOther askedSettings askedEvent
+asks-taken begun l e = pick-each Tells (ltb 512 (length l)) (λ q. absurd (never (cc))) (said (eventOf l))
+  where
+    Tells : Asked → Type 0
+    Tells a = a ≡ asked.Event e → refusalOf e (dataOf l) ≡ 0
+
+    settings : (wrong late fine : Bool) (n : ℕ) → Tells (pick wrong (asked.Refused 4) (pick late (asked.Refused 3) (pick fine asked.Setup (asked.Refused n))))
+    settings true late fine n q = absurd (never (cc))
+    settings false true fine n q = absurd (never (cc))
+    settings false false true n q = absurd (never (cc))
+    settings false false false n q = absurd (never (cc))
+
+    event : (f : Event) (t : Bool) → eqb (refusalOf f (dataOf l)) 0 ≡ t → Tells (pick t (asked.Event f) (asked.Refused (refusalOf f (dataOf l))))
+    event f true z q = let same : f ≡ e = cc in rw (← same) (eqb-true (refusalOf f (dataOf l)) 0 z)
+    event f false z q = absurd (never (cc))
+
+    said : (p : Parsed) → Tells (askedBy begun l p)
+    said Wrong = pick-each Tells (eqb (letterOf l) 83) (settings (eqb (settingsOf l .refusal) 4) begun (eqb (settingsOf l .refusal) 0) (settingsOf l .refusal)) (λ q. absurd (never (cc)))
+    said (Fine f) = event f (eqb (refusalOf f (dataOf l)) 0) refl
 
 module _ (s : Session) (line out : List ℕ) where
   pub setup-comes : askedLine (s .begun) (length out) line ≡ asked.Setup → Comes s line out (silentLine (setupLine line)) out

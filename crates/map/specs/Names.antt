@@ -37,6 +37,9 @@ AD-IN1-LOW-LIMIT = 0x90
 abbrev pub FAN-TACH-1-LIMIT-LSB : ℕ
 FAN-TACH-1-LIMIT-LSB = 0xB4
 
+abbrev pub SPECIAL-FUNCTION-CONTROL-1 : ℕ
+SPECIAL-FUNCTION-CONTROL-1 = 0xBC
+
 abbrev pub SPECIAL-FUNCTION-CONTROL-2 : ℕ
 SPECIAL-FUNCTION-CONTROL-2 = 0xBD
 
@@ -90,6 +93,10 @@ LUT3-Z1 = 0x40
 
 abbrev pub LUT4-Z2 : ℕ
 LUT4-Z2 = 0x80
+
+-- of BCh: the voltage hysteresis, bits 2 to 0
+abbrev pub VH : ℕ
+VH = 0x07
 
 -- of BDh
 abbrev pub LT12-RS : ℕ

@@ -20,6 +20,9 @@ pub const LUT3_Z1: u8 = 0x40;
 
 pub const LUT4_Z2: u8 = 0x80;
 
+// SPECIAL_FUNCTION_CONTROL_1, BCh: the voltage hysteresis, in counts
+pub const VH: u8 = 0x07;
+
 // SPECIAL_FUNCTION_CONTROL_2, BDh
 pub const LT12_RS: u8 = 0x10;
 

@@ -1,6 +1,6 @@
 -- The count of errors and ALERT, and what a tick marks: a watched reading that is still missing cannot look healthy. Assumes nothing.
-use mathlib.Core.Path.{_≡_, refl, ap₂, _∙_}
-use mathlib.Core.Bool.{Bool, true, false, not}
+use mathlib.Core.Path.{_≡_, ap₂, _∙_}
+use mathlib.Core.Bool.{true, not}
 use mathlib.Core.List.{List}
 use Prim.Native.Nat.{ℕ, zero, suc, _+_, _*_, _/_, _%_, _^_, _≤_, _<_}
 use native.Mathlib.Omega.{arith}
@@ -8,7 +8,7 @@ use borrow.Author.Tests.{lt-ltb}
 use lib.Dec.{T, ltb}
 use lib.Ieee.Bits.{is-true}
 use lib.ListN.{length, getD}
-use Rattle.laws.specs.Pick.{both}
+use Rattle.laws.specs.Both.{both-with-true}
 use Rattle.map.specs.Bits.{isSet}
 use Rattle.map.specs.Names.{B-ERROR-STATUS-2, B-ERROR-STATUS-3, B-FAN-ERROR-STATUS, AD-IN1-LOW-LIMIT, FAN-TACH-1-LIMIT-LSB, CONFIGURATION, GMSK}
 use Rattle.state.specs.declared.Chip.{Chip}
@@ -33,10 +33,6 @@ errors-le file =
 pub record Alerts (file : List ℕ) : Type 0 where
   pub counted : ltb 0 (errorsStanding file) ≡ true
   pub alert : alertActive file ≡ not (isSet (getD file CONFIGURATION 0) GMSK)
-
-both-with-true : (t : Bool) → both t true ≡ t
-both-with-true true = refl
-both-with-true false = refl
 
 alerts : (file : List ℕ) → 0 < errorsStanding file → Alerts file
 unfolding alertActive

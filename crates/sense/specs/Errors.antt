@@ -35,7 +35,8 @@ highLimit file i = getD file (AD-IN1-LOW-LIMIT + 2 * i + 1) 0
 unfoldable pub isOutside : ℕ → ℕ → ℕ → Bool
 isOutside low high n = either (ltb n low) (ltb high n)
 
--- "A taken voltage below its low or above its high limit sets the channel's bit"
+-- "A taken voltage below its low or above its high limit sets the channel's bit": document 01's rule, which 02, Q-2, amends (Hysteresis).
+-- With VH 0 the amended one is this (InError).
 unfoldable pub comparedVolt : List ℕ → ℕ → Count → List ℕ
 comparedVolt file i Missing = file
 comparedVolt file i (Taken n) = pick (isOutside (lowLimit file i) (highLimit file i) n) (markedVolt file i) file
@@ -52,9 +53,6 @@ unfoldable pub comparedFan : List ℕ → ℕ → Count → List ℕ
 comparedFan file i Missing = file
 comparedFan file i (Taken n) = pick (ltb (fanLimitAt file i) n) (markedFan file i) file
 
--- the register file after a voltage, and after a fan count; one that is not there changes nothing
-unfoldable pub voltageFile : List ℕ → ℕ → Count → List ℕ
-voltageFile file channel n = pick (ltb channel 16) (comparedVolt file channel n) file
-
+-- the register file after a fan count; one that is not there changes nothing
 unfoldable pub fanFile : List ℕ → ℕ → Count → List ℕ
 fanFile file fan n = pick (ltb fan 4) (comparedFan file fan n) file

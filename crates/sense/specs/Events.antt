@@ -1,5 +1,5 @@
--- Document 01, "Events": T, V, F, H, A and X on the chip. Zones, channels, fans and inputs count from 0; one that is not there changes
--- nothing. Assumes nothing.
+-- Document 01, "Events", and 02, Q-2: T, V, F, H, A and X on the chip. Zones, channels, fans and inputs count from 0; one that is not there
+-- changes nothing. Assumes nothing.
 use mathlib.Core.Path.{_≡_}
 use mathlib.Core.Bool.{Bool, not}
 use mathlib.Core.List.{List}
@@ -9,6 +9,7 @@ use lib.Bits.{bitAnd, bitOr}
 use lib.Dec.{eqb, ltb}
 use lib.ListN.{getD, set}
 use Rattle.laws.specs.Pick.{pick, both, either}
+use Rattle.laws.specs.Pointwise.{pick-each}
 use Rattle.map.specs.Bits.{isSet}
 use Rattle.map.specs.Names.{TEMPERATURE-SOURCE-SELECT, CONFIGURATION, SLEEP-STATE-CONTROL, INT-AD11, EXT-AD15, INT-WR-E, LOCK, GMSK, S4-5}
 use Rattle.temperature.specs.declared.Reading.{Reading}
@@ -17,9 +18,10 @@ use Rattle.temperature.specs.Temperature.{countReading}
 use Rattle.state.specs.declared.Chip.{Chip}
 use Rattle.state.specs.declared.Count.{Count}
 use Rattle.state.specs.declared.Count.the-variants.{Taken, Missing}
-use Rattle.state.specs.Parts.{registerAt}
-use Rattle.state.specs.With.{withRegisters, withPin, withZone, withVolt, withFan, withHotInput}
-use Rattle.sense.specs.Errors.{comparedVolt, comparedFan, voltageFile, fanFile}
+use Rattle.state.specs.Parts.{registerAt, inError}
+use Rattle.state.specs.With.{withRegisters, withPin, withZone, withVolt, withInError, withFan, withHotInput}
+use Rattle.sense.specs.Errors.{comparedFan, fanFile}
+use Rattle.sense.specs.Hysteresis.{erringAfter, erredVolt, voltageFile, voltageErring}
 
 -- ---- T
 
@@ -55,13 +57,24 @@ fedZone c channel n =
     pick (feedsThree (registerAt c TEMPERATURE-SOURCE-SELECT) channel) (withZone c 4 (voltReading n))
     (pick (feedsFour (registerAt c TEMPERATURE-SOURCE-SELECT) channel) (withZone c 5 (voltReading n)) c)
 
-unfoldable pub tookVoltage : Chip → ℕ → Count → Chip
-tookVoltage c channel n =
-    pick (ltb channel 16) (fedZone (withRegisters (withVolt c channel n) (comparedVolt (c .registers) channel n)) channel n) c
+-- what holds whichever zone is fed, or none
+pub fed-each : (P : Chip → Type 0) (c : Chip) (channel : ℕ) (n : Count) → P (withZone c 4 (voltReading n)) → P (withZone c 5 (voltReading n)) → P c → P (fedZone c channel n)
+unfolding fedZone
+fed-each P c channel n three four none =
+    pick-each P (feedsThree (registerAt c TEMPERATURE-SOURCE-SELECT) channel) three
+    (pick-each P (feedsFour (registerAt c TEMPERATURE-SOURCE-SELECT) channel) four none)
 
--- V on the parts: a channel that is there sets its reading and its error bits, and can feed a zone
-pub voltage-by-parts : (c : Chip) (channel : ℕ) (n : Count) → channel < 16 → tookVoltage c channel n ≡ fedZone (withRegisters (withVolt c channel n) (voltageFile (c .registers) channel n)) channel n
-unfolding tookVoltage voltageFile
+-- the reading, and what follows from it for the channel's error
+unfoldable pub readVolt : Chip → ℕ → Count → Chip
+readVolt c channel n =
+    withInError (withRegisters (withVolt c channel n) (erredVolt (c .registers) channel (inError c channel) n)) channel (erringAfter (c .registers) channel (inError c channel) n)
+
+unfoldable pub tookVoltage : Chip → ℕ → Count → Chip
+tookVoltage c channel n = pick (ltb channel 16) (fedZone (readVolt c channel n) channel n) c
+
+-- V on the parts: a channel that is there sets its reading, whether it is in error and its error bits, and can feed a zone
+pub voltage-by-parts : (c : Chip) (channel : ℕ) (n : Count) → channel < 16 → tookVoltage c channel n ≡ fedZone (withInError (withRegisters (withVolt c channel n) (voltageFile (c .registers) channel (inError c channel) n)) channel (voltageErring (c .registers) channel (inError c channel) n)) channel n
+unfolding tookVoltage readVolt voltageFile voltageErring
 voltage-by-parts c channel n h = rw (lt-ltb channel 16 h)
 
 -- ---- F, H, A, X

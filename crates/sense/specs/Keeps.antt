@@ -18,12 +18,12 @@ use Rattle.state.specs.declared.Chip.{Chip}
 use Rattle.state.specs.declared.Zone.{Zone}
 use Rattle.state.specs.declared.Gauge.{Gauge}
 use Rattle.state.specs.declared.Count.{Count}
-use Rattle.state.specs.Parts.{noZone, noGauge, registerAt, zoneAt, voltAt, fanAt, hotAt}
-use Rattle.state.specs.With.{withRegisters, withZone, withVolt, withFan, withHotInput}
-use Rattle.sense.specs.Errors.{comparedVolt, comparedFan}
+use Rattle.state.specs.Parts.{noZone, noGauge, registerAt, zoneAt, voltAt, inError, fanAt, hotAt}
+use Rattle.state.specs.With.{withRegisters, withZone, withVolt, withInError, withFan, withHotInput}
+use Rattle.sense.specs.Errors.{comparedFan}
 use Rattle.sense.specs.Missing.{missed}
-use Rattle.sense.specs.Events.{zoneHeard, tookTemperature, voltReading, feedsThree, feedsFour, fedZone, tookVoltage, tookFan, tookHot, tookPin, resetFile, tookReset}
-use Rattle.sense.specs.Marks.{Marks, marks-none, compared-volt-marks, compared-fan-marks}
+use Rattle.sense.specs.Events.{zoneHeard, tookTemperature, voltReading, fedZone, fed-each, readVolt, tookVoltage, tookFan, tookHot, tookPin, resetFile, tookReset}
+use Rattle.sense.specs.Marks.{Marks, marks-none, erred-volt-marks, compared-fan-marks}
 
 -- ---- T: one zone's reading, and no other part
 
@@ -33,6 +33,7 @@ pub record TemperatureKeeps (c d : Chip) (zone : ℕ) : Type 0 where
   pub registers : d .registers ≡ c .registers
   pub zones : (i : ℕ) → i ≢ zone → zoneAt d i ≡ zoneAt c i
   pub volts : d .volts ≡ c .volts
+  pub erring : d .erring ≡ c .erring
   pub fans : d .fans ≡ c .fans
   pub kept : d .kept ≡ c .kept
   pub hot : d .hot ≡ c .hot
@@ -45,26 +46,27 @@ zone-other c zone i r n = ap (λ (z : Zone). z .reading) (getD-set-other (c .zon
 
 temperature-same : (c : Chip) (zone : ℕ) → TemperatureKeeps c c zone
 temperature-same c zone =
-    record { setup = refl; registers = refl; zones = λ i n. refl; volts = refl; fans = refl; kept = refl; hot = refl; pin = refl; drive = refl }
+    record { setup = refl; registers = refl; zones = λ i n. refl; volts = refl; erring = refl; fans = refl; kept = refl; hot = refl; pin = refl; drive = refl }
 
 temperature-set : (c : Chip) (zone : ℕ) (r : Reading) → TemperatureKeeps c (withZone c zone r) zone
 unfolding withZone
 temperature-set c zone r =
-    record { setup = refl; registers = refl; zones = λ i n. zone-other c zone i r n; volts = refl; fans = refl; kept = refl; hot = refl; pin = refl; drive = refl }
+    record { setup = refl; registers = refl; zones = λ i n. zone-other c zone i r n; volts = refl; erring = refl; fans = refl; kept = refl; hot = refl; pin = refl; drive = refl }
 
 pub temperature-keeps : (c : Chip) (zone : ℕ) (r : Reading) → TemperatureKeeps c (tookTemperature c zone r) zone
 unfolding tookTemperature
 temperature-keeps c zone r =
     pick-each (λ (d : Chip). TemperatureKeeps c d zone) (zoneHeard (registerAt c TEMPERATURE-SOURCE-SELECT) zone) (temperature-set c zone r) (temperature-same c zone)
 
--- ---- V: one voltage, its error bits, and zone 3 or 4
+-- ---- V: one voltage, whether its channel is in error, its error bits, and zone 3 or 4
 
--- the registers but for marks, zones 1a to 2b, every other voltage, and the other parts
+-- the registers but for marks, zones 1a to 2b, every other channel, and the other parts
 pub record VoltageKeeps (c d : Chip) (channel : ℕ) : Type 0 where
   pub setup : d .setup ≡ c .setup
   pub registers : Marks (c .registers) (d .registers)
   pub zones : (i : ℕ) → i < 4 → zoneAt d i ≡ zoneAt c i
   pub volts : (i : ℕ) → i ≢ channel → voltAt d i ≡ voltAt c i
+  pub erring : (i : ℕ) → i ≢ channel → inError d i ≡ inError c i
   pub fans : d .fans ≡ c .fans
   pub kept : d .kept ≡ c .kept
   pub hot : d .hot ≡ c .hot
@@ -73,15 +75,16 @@ pub record VoltageKeeps (c d : Chip) (channel : ℕ) : Type 0 where
 
 voltage-same : (c : Chip) (channel : ℕ) → VoltageKeeps c c channel
 voltage-same c channel =
-    record { setup = refl; registers = marks-none (c .registers); zones = λ i l. refl; volts = λ i o. refl; fans = refl; kept = refl; hot = refl; pin = refl; drive = refl }
+    record { setup = refl; registers = marks-none (c .registers); zones = λ i l. refl; volts = λ i o. refl; erring = λ i o. refl; fans = refl; kept = refl; hot = refl; pin = refl; drive = refl }
 
-voltage-set : (c : Chip) (channel : ℕ) (n : Count) → channel < 16 → VoltageKeeps c (withRegisters (withVolt c channel n) (comparedVolt (c .registers) channel n)) channel
-unfolding withVolt voltAt zoneAt
+voltage-set : (c : Chip) (channel : ℕ) (n : Count) → channel < 16 → VoltageKeeps c (readVolt c channel n) channel
+unfolding readVolt withVolt withInError voltAt inError zoneAt
 voltage-set c channel n l = record {
   setup = refl;
-  registers = compared-volt-marks (c .registers) channel l n;
+  registers = erred-volt-marks (c .registers) channel l (inError c channel) n;
   zones = λ i l. refl;
   volts = λ i o. ap (λ (g : Gauge). g .count) (getD-set-other (c .volts) channel i (record { count = n }) noGauge o);
+  erring = λ i o. getD-set-other (c .erring) channel i _ false o;
   fans = refl;
   kept = refl;
   hot = refl;
@@ -91,12 +94,13 @@ voltage-set c channel n l = record {
 
 -- a zone past the first four as well
 voltage-feeds : (c d : Chip) (channel zone : ℕ) (r : Reading) → 4 ≤ zone → VoltageKeeps c d channel → VoltageKeeps c (withZone d zone r) channel
-unfolding withZone voltAt
+unfolding withZone voltAt inError
 voltage-feeds c d channel zone r p k = record {
   setup = k .setup;
   registers = k .registers;
   zones = λ i l. zone-other d zone i r (λ e. omega arith) ∙ k .zones i l;
   volts = k .volts;
+  erring = k .erring;
   fans = k .fans;
   kept = k .kept;
   hot = k .hot;
@@ -105,19 +109,14 @@ voltage-feeds c d channel zone r p k = record {
 }
 
 fed-keeps : (c d : Chip) (channel : ℕ) (n : Count) → VoltageKeeps c d channel → VoltageKeeps c (fedZone d channel n) channel
-unfolding fedZone
-fed-keeps c d channel n k = go (feedsThree (registerAt d TEMPERATURE-SOURCE-SELECT) channel) (feedsFour (registerAt d TEMPERATURE-SOURCE-SELECT) channel)
-  where
-    go : (three four : Bool) → VoltageKeeps c (pick three (withZone d 4 (voltReading n)) (pick four (withZone d 5 (voltReading n)) d)) channel
-    go true four = voltage-feeds c d channel 4 (voltReading n) (omega arith) k
-    go false true = voltage-feeds c d channel 5 (voltReading n) (omega arith) k
-    go false false = k
+fed-keeps c d channel n k =
+    fed-each (λ (e : Chip). VoltageKeeps c e channel) d channel n (voltage-feeds c d channel 4 (voltReading n) (omega arith) k) (voltage-feeds c d channel 5 (voltReading n) (omega arith) k) k
 
 pub voltage-keeps : (c : Chip) (channel : ℕ) (n : Count) → VoltageKeeps c (tookVoltage c channel n) channel
 unfolding tookVoltage
 voltage-keeps c channel n = go (ltb channel 16) refl
   where
-    go : (there : Bool) → ltb channel 16 ≡ there → VoltageKeeps c (pick there (fedZone (withRegisters (withVolt c channel n) (comparedVolt (c .registers) channel n)) channel n) c) channel
+    go : (there : Bool) → ltb channel 16 ≡ there → VoltageKeeps c (pick there (fedZone (readVolt c channel n) channel n) c) channel
     go true e = fed-keeps c _ channel n (voltage-set c channel n (ltb-true channel 16 e))
     go false e = voltage-same c channel
 
@@ -129,6 +128,7 @@ pub record FanKeeps (c d : Chip) (fan : ℕ) : Type 0 where
   pub registers : Marks (c .registers) (d .registers)
   pub zones : d .zones ≡ c .zones
   pub volts : d .volts ≡ c .volts
+  pub erring : d .erring ≡ c .erring
   pub fans : (i : ℕ) → i ≢ fan → fanAt d i ≡ fanAt c i
   pub kept : d .kept ≡ c .kept
   pub hot : d .hot ≡ c .hot
@@ -145,13 +145,14 @@ fan-keeps c fan n = go (ltb fan 4)
       registers = compared-fan-marks (c .registers) fan n;
       zones = refl;
       volts = refl;
+      erring = refl;
       fans = λ i o. ap (λ (g : Gauge). g .count) (getD-set-other (c .fans) fan i (record { count = n }) noGauge o);
       kept = refl;
       hot = refl;
       pin = refl;
       drive = refl;
     }
-    go false = record { setup = refl; registers = marks-none (c .registers); zones = refl; volts = refl; fans = λ i o. refl; kept = refl; hot = refl; pin = refl; drive = refl }
+    go false = record { setup = refl; registers = marks-none (c .registers); zones = refl; volts = refl; erring = refl; fans = λ i o. refl; kept = refl; hot = refl; pin = refl; drive = refl }
 
 -- ---- H: one hot input
 
@@ -161,6 +162,7 @@ pub record HotKeeps (c d : Chip) (input : ℕ) : Type 0 where
   pub registers : d .registers ≡ c .registers
   pub zones : d .zones ≡ c .zones
   pub volts : d .volts ≡ c .volts
+  pub erring : d .erring ≡ c .erring
   pub fans : d .fans ≡ c .fans
   pub kept : d .kept ≡ c .kept
   pub hot : (i : ℕ) → i ≢ input → hotAt d i ≡ hotAt c i
@@ -174,6 +176,7 @@ hot-keeps c input hot = record {
   registers = refl;
   zones = refl;
   volts = refl;
+  erring = refl;
   fans = refl;
   kept = refl;
   hot = λ i o. getD-set-other (c .hot) input i hot false o;
@@ -189,6 +192,7 @@ pub record PinKeeps (c d : Chip) : Type 0 where
   pub registers : d .registers ≡ c .registers
   pub zones : d .zones ≡ c .zones
   pub volts : d .volts ≡ c .volts
+  pub erring : d .erring ≡ c .erring
   pub fans : d .fans ≡ c .fans
   pub kept : d .kept ≡ c .kept
   pub hot : d .hot ≡ c .hot
@@ -198,7 +202,7 @@ pub record PinKeeps (c d : Chip) : Type 0 where
 pub pin-keeps : (c : Chip) (level : ℕ) → PinKeeps c (tookPin c level)
 unfolding tookPin
 pin-keeps c level =
-    record { setup = refl; registers = refl; zones = refl; volts = refl; fans = refl; kept = refl; hot = refl; latch = refl; drive = refl }
+    record { setup = refl; registers = refl; zones = refl; volts = refl; erring = refl; fans = refl; kept = refl; hot = refl; latch = refl; drive = refl }
 
 -- ---- X and a tick's marks: registers alone
 
@@ -207,6 +211,7 @@ pub record RegistersAlone (c d : Chip) : Type 0 where
   pub setup : d .setup ≡ c .setup
   pub zones : d .zones ≡ c .zones
   pub volts : d .volts ≡ c .volts
+  pub erring : d .erring ≡ c .erring
   pub fans : d .fans ≡ c .fans
   pub kept : d .kept ≡ c .kept
   pub hot : d .hot ≡ c .hot
@@ -215,11 +220,11 @@ pub record RegistersAlone (c d : Chip) : Type 0 where
 
 pub reset-keeps : (c : Chip) → RegistersAlone c (tookReset c)
 unfolding tookReset
-reset-keeps c = record { setup = refl; zones = refl; volts = refl; fans = refl; kept = refl; hot = refl; pin = refl; drive = refl }
+reset-keeps c = record { setup = refl; zones = refl; volts = refl; erring = refl; fans = refl; kept = refl; hot = refl; pin = refl; drive = refl }
 
 pub missed-keeps : (c : Chip) → RegistersAlone c (missed c)
 unfolding missed
-missed-keeps c = record { setup = refl; zones = refl; volts = refl; fans = refl; kept = refl; hot = refl; pin = refl; drive = refl }
+missed-keeps c = record { setup = refl; zones = refl; volts = refl; erring = refl; fans = refl; kept = refl; hot = refl; pin = refl; drive = refl }
 
 -- X changes E3h and E4h alone, so no error bit
 pub reset-other : (file : List ℕ) (a : ℕ) → a ≢ CONFIGURATION → a ≢ SLEEP-STATE-CONTROL → getD (resetFile file) a 0 ≡ getD file a 0

@@ -1,9 +1,11 @@
 pub mod Errors
+pub mod Hysteresis
 pub mod Missing
 pub mod Standing
 pub mod Ones
 pub mod IsSet
 pub mod Marks
+pub mod InError
 pub mod Alerts
 pub mod Keeps
 pub mod Events

@@ -18,7 +18,8 @@ use Rattle.state.specs.declared.Gauge.{Gauge}
 use Rattle.state.specs.declared.Count.{Count}
 use Rattle.state.specs.declared.Count.the-variants.{Taken, Missing}
 use Rattle.state.specs.Parts.{noGauge}
-use Rattle.sense.specs.Errors.{withBit, markedVolt, markedFan, lowLimit, highLimit, isOutside, comparedVolt, fanLimitAt, comparedFan}
+use Rattle.sense.specs.Errors.{withBit, markedVolt, markedFan, lowLimit, highLimit, fanLimitAt, comparedFan}
+use Rattle.sense.specs.Hysteresis.{erringAfter, erredVolt}
 use Rattle.sense.specs.Missing.{voltWatched, fanWatched, missedVolt, missedFan, missedVolts, missedFans}
 use Rattle.sense.specs.IsSet.{set-new, set-stays}
 
@@ -119,10 +120,10 @@ module _ (file : List ℕ) (i : ℕ) (l : i < 16) where
   volt-stands = both-stand file (B-ERROR-STATUS-2 + i / 8) (H-ERROR-STATUS-2 + i / 8) (2 ^ (i % 8)) (omega arith) (omega arith)
 
   -- so does a reading that is compared, and one that a tick finds missing
-  pub compared-volt-marks : (n : Count) → Marks file (comparedVolt file i n)
-  unfolding comparedVolt
-  compared-volt-marks Missing = marks-none file
-  compared-volt-marks (Taken n) = marks-if (isOutside (lowLimit file i) (highLimit file i) n) volt-marks
+  pub erred-volt-marks : (before : Bool) (n : Count) → Marks file (erredVolt file i before n)
+  unfolding erredVolt
+  erred-volt-marks before Missing = marks-none file
+  erred-volt-marks before (Taken n) = marks-if (erringAfter file i before (Taken n)) volt-marks
 
   pub missed-volt-marks : (n : Count) → Marks file (missedVolt file i n)
   unfolding missedVolt

@@ -1,7 +1,8 @@
-// How readings come in, and the errors they raise (document 01, "Events" and "Errors and ALERT").
+// How readings come in, and the errors they raise (document 01, "Events" and "Errors and ALERT"; document 02, Q-2).
 ghost use mathlib.Core.Path.{_≡_};
 ghost use Prim.Native.Nat.{_+_, _<_, _^_};
-ghost use Rattle.sense.specs.Errors.{withBit, markedVolt, markedFan, isOutside, fanLimit, comparedVolt, comparedFan, voltageFile, fanFile};
+ghost use Rattle.sense.specs.Errors.{withBit, markedVolt, markedFan, isOutside, fanLimit, comparedFan, fanFile};
+ghost use Rattle.sense.specs.Hysteresis.{hysteresisOf, lowMove, highMove, endsError, erringOn, erringAfter, erredVolt, voltageFile, voltageErring};
 ghost use Rattle.sense.specs.Missing.{voltWatched, fanWatched, missedVolt, missedFan, missedVolts, missedFans, missedFile};
 ghost use Rattle.sense.specs.Standing.{bitsOf, errorsStanding, alertActive};
 ghost use Rattle.sense.specs.Events.{zoneThreeFed, zoneHeard, voltReading, feedsThree, feedsFour, resetFile};
@@ -52,6 +53,32 @@ fn mark_fan(file: &mut [u8; 256], fan: u8)
     set_bit(file, registers::H_FAN_ERROR_STATUS, bit);
 }
 
+// VH, the voltage hysteresis.
+fn hysteresis_of(file: &[u8; 256]) -> u8
+    ensures { λ r. ⌜ r ≡ hysteresisOf (now (file .entry)) ⌝ }
+{
+    file[registers::SPECIAL_FUNCTION_CONTROL_1 as usize] & bits::VH
+}
+
+// By how much VH moves a low limit, and a high limit.
+fn low_move(low: u8, vh: u8) -> u8
+    ensures { λ r. ⌜ r ≡ lowMove low vh ⌝ }
+{
+    if low == 0x00 {
+        return 0;
+    }
+    vh
+}
+
+fn high_move(high: u8, vh: u8) -> u8
+    ensures { λ r. ⌜ r ≡ highMove high vh ⌝ }
+{
+    if high == 0xFF {
+        return 0;
+    }
+    vh
+}
+
 fn is_outside(low: u8, high: u8, count: u16) -> bool
     ensures { λ r. ⌜ r ≡ isOutside low high count ⌝ }
 {
@@ -61,6 +88,29 @@ fn is_outside(low: u8, high: u8, count: u16) -> bool
     (high as u16) < count
 }
 
+// Whether a reading ends an error.
+fn ends_error(low: u8, high: u8, vh: u8, count: u16) -> bool
+    ensures { λ r. ⌜ r ≡ endsError low high vh count ⌝ }
+{
+    if low as u32 + low_move(low, vh) as u32 <= count as u32 {
+        return count as u32 + high_move(high, vh) as u32 <= high as u32;
+    }
+    false
+}
+
+// Whether a channel is in error after a reading.
+fn is_erring(low: u8, high: u8, vh: u8, before: bool, count: u16) -> bool
+    ensures { λ r. ⌜ r ≡ erringOn low high vh before count ⌝ }
+{
+    if is_outside(low, high, count) {
+        return true;
+    }
+    if before {
+        return !ends_error(low, high, vh, count);
+    }
+    false
+}
+
 // A fan's limit: six bits in the low byte's top, eight in the high byte.
 fn fan_limit(low: u8, high: u8) -> u16
     ensures { λ r. ⌜ r ≡ fanLimit low high ⌝ }
@@ -68,20 +118,23 @@ fn fan_limit(low: u8, high: u8) -> u16
     (low / 4) as u16 + high as u16 * 64
 }
 
-// A taken voltage outside its limits sets its bit.
-fn mark_if_outside(file: &mut [u8; 256], channel: u8, count: Count)
+// A taken voltage that leaves its channel in error sets its bit. Answers whether the channel is in error.
+fn mark_if_erring(file: &mut [u8; 256], channel: u8, before: bool, count: Count) -> bool
     requires { ⌜ channel < 16 ⌝ }
-    ensures { λ _. ⌜ now (file .exit) ≡ comparedVolt (now (file .entry)) channel count ⌝ }
+    ensures { λ r. ⌜ (r ≡ erringAfter (now (file .entry)) channel before count) × (now (file .exit) ≡ erredVolt (now (file .entry)) channel before count) ⌝ }
 {
     let Count::Taken(n) = count else {
-        return;
+        return before;
     };
     let at = registers::AD_IN1_LOW_LIMIT as usize + 2 * (channel as usize);
     let low = file[at];
     let high = file[at + 1];
-    if is_outside(low, high, n) {
+    let vh = hysteresis_of(file);
+    if is_erring(low, high, vh, before, n) {
         mark_volt(file, channel);
+        return true;
     }
+    false
 }
 
 // A taken fan count above its limit sets its bit.
@@ -100,13 +153,15 @@ fn mark_if_above(file: &mut [u8; 256], fan: u8, count: Count)
     }
 }
 
-// A voltage reading is compared with its limits, and can set its error bit. Channels count from 0; there are sixteen.
-pub fn compare_voltage(file: &mut [u8; 256], channel: u8, count: Count)
-    ensures { λ _. ⌜ now (file .exit) ≡ voltageFile (now (file .entry)) channel count ⌝ }
+// A voltage reading is compared with its limits and VH, and sets its error bit if it leaves its channel in error. Given whether the channel
+// was in error before, answers whether it is now. Channels count from 0; there are sixteen.
+pub fn compare_voltage(file: &mut [u8; 256], channel: u8, before: bool, count: Count) -> bool
+    ensures { λ r. ⌜ (r ≡ voltageErring (now (file .entry)) channel before count) × (now (file .exit) ≡ voltageFile (now (file .entry)) channel before count) ⌝ }
 {
     if channel < 16 {
-        mark_if_outside(file, channel, count);
+        return mark_if_erring(file, channel, before, count);
     }
+    before
 }
 
 // A fan count is compared with its limit, and can set its error bit. Fans count from 0; there are four.

@@ -8,4 +8,6 @@ pub mod ReadLines
 pub mod BlockLines
 pub mod HealthyLines
 pub mod WrongLines
+pub mod SaidLines
 pub mod WholeLines
+pub mod HeldLines

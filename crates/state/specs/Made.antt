@@ -34,7 +34,7 @@ ofKept file zones volts fans kept = withKept (ofReadings file zones volts fans) 
 -- ---- what a tick looks at
 
 abbrev pub ofDrive : Setup → List ℕ → List Zone → List Bool → Drive → Chip
-ofDrive setup file zones hot drive = record { setup = setup; registers = file; zones = zones; volts = fresh .volts; fans = fresh .fans; kept = fresh .kept; hot = hot; pin = fresh .pin; drive = drive }
+ofDrive setup file zones hot drive = record { setup = setup; registers = file; zones = zones; volts = fresh .volts; erring = fresh .erring; fans = fresh .fans; kept = fresh .kept; hot = hot; pin = fresh .pin; drive = drive }
 
 -- its tables: of the drive the old steps
 abbrev pub ofTables : Setup → List ℕ → List Zone → List ℕ → Chip

@@ -21,6 +21,7 @@ pub record Cooler (c d : Chip) : Type 0 where
   pub registers : c .registers ≡ d .registers
   pub zones : (i : ℕ) → NoHotter (zoneAt c i) (zoneAt d i)
   pub volts : c .volts ≡ d .volts
+  pub erring : c .erring ≡ d .erring
   pub fans : c .fans ≡ d .fans
   pub kept : c .kept ≡ d .kept
   pub hot : c .hot ≡ d .hot

@@ -49,6 +49,10 @@ zoneAt c i = getD (c .zones) i noZone .reading
 unfoldable pub voltAt : Chip → ℕ → Count
 voltAt c i = getD (c .volts) i noGauge .count
 
+-- voltage channel i + 1 is in error
+unfoldable pub inError : Chip → ℕ → Bool
+inError c i = getD (c .erring) i false
+
 -- the reading of fan i + 1
 unfoldable pub fanAt : Chip → ℕ → Count
 fanAt c i = getD (c .fans) i noGauge .count

@@ -1,4 +1,4 @@
--- The setup without a setup, and the chip at power-on (document 01, "Setup" and "Events"; document 02, Q-4). Assumes nothing.
+-- The setup without a setup, and the chip at power-on (document 01, "Setup" and "Events"; document 02, Q-2 and Q-4). Assumes nothing.
 use mathlib.Core.Bool.{false}
 use mathlib.Core.List.{[], _∷_}
 use lib.IntN.{pos}
@@ -40,6 +40,7 @@ atRest = record {
 
 -- "The state holds a register file of 256 bytes, filled at power-on from the defaults." "At power-on all readings are missing, hot
 -- inputs 0, duties, ramp levels, wait and start counts 0, boosts off, LOCK and GMSK clear, nothing latched."
+-- 02, Q-2: "a channel is in error from a taken reading outside its limits": at power-on none has been taken.
 -- 02, Q-4: "One kept byte per fan joins the chip's state, power-on starts with none"
 unfoldable pub powerOn : Setup → Chip
 powerOn s = record {
@@ -47,6 +48,7 @@ powerOn s = record {
   registers = defaults;
   zones = replicate 6 noZone;
   volts = replicate 16 noGauge;
+  erring = replicate 16 false;
   fans = replicate 4 noGauge;
   kept = replicate 4 noKept;
   hot = replicate 4 false;

@@ -13,28 +13,31 @@ use Rattle.state.specs.declared.FanKept.{FanKept}
 use Rattle.state.specs.declared.Count.{Count}
 
 abbrev pub withRegisters : Chip → List ℕ → Chip
-withRegisters c x = record { setup = c .setup; registers = x; zones = c .zones; volts = c .volts; fans = c .fans; kept = c .kept; hot = c .hot; pin = c .pin; drive = c .drive }
+withRegisters c x = record { setup = c .setup; registers = x; zones = c .zones; volts = c .volts; erring = c .erring; fans = c .fans; kept = c .kept; hot = c .hot; pin = c .pin; drive = c .drive }
 
 abbrev pub withZones : Chip → List Zone → Chip
-withZones c x = record { setup = c .setup; registers = c .registers; zones = x; volts = c .volts; fans = c .fans; kept = c .kept; hot = c .hot; pin = c .pin; drive = c .drive }
+withZones c x = record { setup = c .setup; registers = c .registers; zones = x; volts = c .volts; erring = c .erring; fans = c .fans; kept = c .kept; hot = c .hot; pin = c .pin; drive = c .drive }
 
 abbrev pub withVolts : Chip → List Gauge → Chip
-withVolts c x = record { setup = c .setup; registers = c .registers; zones = c .zones; volts = x; fans = c .fans; kept = c .kept; hot = c .hot; pin = c .pin; drive = c .drive }
+withVolts c x = record { setup = c .setup; registers = c .registers; zones = c .zones; volts = x; erring = c .erring; fans = c .fans; kept = c .kept; hot = c .hot; pin = c .pin; drive = c .drive }
+
+abbrev pub withErring : Chip → List Bool → Chip
+withErring c x = record { setup = c .setup; registers = c .registers; zones = c .zones; volts = c .volts; erring = x; fans = c .fans; kept = c .kept; hot = c .hot; pin = c .pin; drive = c .drive }
 
 abbrev pub withFans : Chip → List Gauge → Chip
-withFans c x = record { setup = c .setup; registers = c .registers; zones = c .zones; volts = c .volts; fans = x; kept = c .kept; hot = c .hot; pin = c .pin; drive = c .drive }
+withFans c x = record { setup = c .setup; registers = c .registers; zones = c .zones; volts = c .volts; erring = c .erring; fans = x; kept = c .kept; hot = c .hot; pin = c .pin; drive = c .drive }
 
 abbrev pub withKept : Chip → List FanKept → Chip
-withKept c x = record { setup = c .setup; registers = c .registers; zones = c .zones; volts = c .volts; fans = c .fans; kept = x; hot = c .hot; pin = c .pin; drive = c .drive }
+withKept c x = record { setup = c .setup; registers = c .registers; zones = c .zones; volts = c .volts; erring = c .erring; fans = c .fans; kept = x; hot = c .hot; pin = c .pin; drive = c .drive }
 
 abbrev pub withHot : Chip → List Bool → Chip
-withHot c x = record { setup = c .setup; registers = c .registers; zones = c .zones; volts = c .volts; fans = c .fans; kept = c .kept; hot = x; pin = c .pin; drive = c .drive }
+withHot c x = record { setup = c .setup; registers = c .registers; zones = c .zones; volts = c .volts; erring = c .erring; fans = c .fans; kept = c .kept; hot = x; pin = c .pin; drive = c .drive }
 
 abbrev pub withPin : Chip → Pin → Chip
-withPin c x = record { setup = c .setup; registers = c .registers; zones = c .zones; volts = c .volts; fans = c .fans; kept = c .kept; hot = c .hot; pin = x; drive = c .drive }
+withPin c x = record { setup = c .setup; registers = c .registers; zones = c .zones; volts = c .volts; erring = c .erring; fans = c .fans; kept = c .kept; hot = c .hot; pin = x; drive = c .drive }
 
 abbrev pub withDrive : Chip → Drive → Chip
-withDrive c x = record { setup = c .setup; registers = c .registers; zones = c .zones; volts = c .volts; fans = c .fans; kept = c .kept; hot = c .hot; pin = c .pin; drive = x }
+withDrive c x = record { setup = c .setup; registers = c .registers; zones = c .zones; volts = c .volts; erring = c .erring; fans = c .fans; kept = c .kept; hot = c .hot; pin = c .pin; drive = x }
 
 -- ---- one element
 
@@ -49,6 +52,10 @@ withZone c i r = withZones c (set (c .zones) i (record { reading = r }))
 -- voltage i has the reading n
 unfoldable pub withVolt : Chip → ℕ → Count → Chip
 withVolt c i n = withVolts c (set (c .volts) i (record { count = n }))
+
+-- whether channel i is in error is e
+unfoldable pub withInError : Chip → ℕ → Bool → Chip
+withInError c i e = withErring c (set (c .erring) i e)
 
 -- fan i has the reading n
 unfoldable pub withFan : Chip → ℕ → Count → Chip

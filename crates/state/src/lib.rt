@@ -108,6 +108,8 @@ pub struct Chip {
     // In zone order 1a, 1b, 2a, 2b, 3, 4.
     pub zones: [Zone; 6],
     pub volts: [Gauge; 16],
+    // Whether each voltage channel is in error.
+    pub erring: [bool; 16],
     pub fans: [Gauge; 4],
     pub kept: [FanKept; 4],
     // VRD1, VRD2, PROCHOT1, PROCHOT2.
@@ -371,6 +373,7 @@ fn new_chip(setup: Setup) -> Chip
         registers: registers,
         zones: zones,
         volts: volts,
+        erring: [false; 16],
         fans: fans,
         kept: kept,
         hot: [false; 4],

@@ -45,7 +45,7 @@ pub record Under (c d : Chip) : Type 0 where
   pub cooler : Cooler c d
 
 -- chips with the same of all else
-pub same-but : {s : Setup} {r : List ℕ} {zs ws : List Zone} {v f : List Gauge} {k : List FanKept} {h : List Bool} {p : Pin} {d e : Drive} → ZonesCooler zs ws → DriveNoHigher d e → Under (record { setup = s; registers = r; zones = zs; volts = v; fans = f; kept = k; hot = h; pin = p; drive = d }) (record { setup = s; registers = r; zones = ws; volts = v; fans = f; kept = k; hot = h; pin = p; drive = e })
+pub same-but : {s : Setup} {r : List ℕ} {zs ws : List Zone} {v f : List Gauge} {k : List FanKept} {g h : List Bool} {p : Pin} {d e : Drive} → ZonesCooler zs ws → DriveNoHigher d e → Under (record { setup = s; registers = r; zones = zs; volts = v; erring = g; fans = f; kept = k; hot = h; pin = p; drive = d }) (record { setup = s; registers = r; zones = ws; volts = v; erring = g; fans = f; kept = k; hot = h; pin = p; drive = e })
 unfolding zoneAt
 same-but z n = record {
   many = z .many;
@@ -54,6 +54,7 @@ same-but z n = record {
     registers = refl;
     zones = z .each;
     volts = refl;
+    erring = refl;
     fans = refl;
     kept = refl;
     hot = refl;
@@ -73,7 +74,7 @@ beside c zs x = withDrive (withZones c zs) x
 
 -- a chip that is no cooler than c is c, but with its own zones and drive
 is-beside : {c d : Chip} → Cooler c d → d ≡ beside c (d .zones) (d .drive)
-is-beside k = rw (k .setup, k .registers, k .volts, k .fans, k .kept, k .hot, k .pin)
+is-beside k = rw (k .setup, k .registers, k .volts, k .erring, k .fans, k .kept, k .hot, k .pin)
 
 -- so what holds of every such chip beside c holds of one that c is under
 pub under-beside : {c d : Chip} (P : Chip → Type 0) → ((zs : List Zone) (x : Drive) → ZonesCooler (c .zones) zs → DriveNoHigher (c .drive) x → P (beside c zs x)) → Under c d → P d

@@ -19,12 +19,11 @@ use Rattle.state.specs.declared.Chip.{Chip}
 use Rattle.state.specs.declared.Drive.{Drive}
 use Rattle.state.specs.declared.Zone.{Zone}
 use Rattle.state.specs.declared.Count.{Count}
-use Rattle.state.specs.Parts.{registerAt, zoneAt}
-use Rattle.state.specs.With.{withRegisters, withRegister, withZone, withVolt, withFan, withHotInput}
+use Rattle.state.specs.Parts.{registerAt, zoneAt, inError}
+use Rattle.state.specs.With.{withRegister, withZone, withVolt, withInError, withFan, withHotInput}
 use Rattle.state.specs.Order.{DriveNoHigher}
-use Rattle.sense.specs.Errors.{comparedVolt}
 use Rattle.sense.specs.Missing.{missed}
-use Rattle.sense.specs.Events.{zoneHeard, tookTemperature, feedsThree, feedsFour, fedZone, tookVoltage, tookFan, tookHot, tookPin, tookReset}
+use Rattle.sense.specs.Events.{zoneHeard, tookTemperature, feedsThree, feedsFour, fedZone, readVolt, tookVoltage, tookFan, tookHot, tookPin, tookReset}
 use Rattle.bus.specs.declared.Change.{Change}
 use Rattle.bus.specs.Latch.{isOurs, transacted}
 use Rattle.bus.specs.Write.{stored, cleared, zoneWritable, changeWhole, changeHalf, changeKind, isShut, changeHome, changeOf, changed, wroteRegister, Written, wroteByte}
@@ -125,10 +124,10 @@ module _ (c : Chip) {zs : List Zone} {x : Drive} (z : ZonesCooler (c .zones) zs)
 module _ (c : Chip) {zs : List Zone} {x : Drive} (z : ZonesCooler (c .zones) zs) (n : DriveNoHigher (c .drive) x) where
   -- V
   pub voltage-under : (channel : ℕ) (count : Count) → Under (tookVoltage c channel count) (tookVoltage (beside c zs x) channel count)
-  unfolding tookVoltage withVolt
+  unfolding tookVoltage readVolt withVolt withInError inError
   voltage-under channel count =
       pick-related Under (ltb channel 16)
-      (fed-under (withRegisters (withVolt c channel count) (comparedVolt (c .registers) channel count)) z n channel count)
+      (fed-under (readVolt c channel count) z n channel count)
       (itself c z n)
 
   -- W

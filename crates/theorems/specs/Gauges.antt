@@ -1,4 +1,5 @@
--- What events leave of the voltages and fan counts: a reading that is missing stays so until its own event gives one. Assumes nothing.
+-- What events leave of the voltages, of the channels in error and of the fan counts: a reading that is missing stays so until its own event
+-- gives one. Assumes nothing.
 use mathlib.Core.Path.{_≡_, refl, ap, _∙_}
 use mathlib.Core.Bool.{true}
 use mathlib.Core.List.{List, [], _∷_}
@@ -8,15 +9,14 @@ use lib.Dec.{ltb}
 use lib.ListN.{getD, set}
 use Rattle.laws.specs.Pointwise.{pick-each}
 use Rattle.laws.specs.Store.{set-cases}
-use Rattle.map.specs.Names.{TEMPERATURE-SOURCE-SELECT}
 use Rattle.state.specs.declared.Chip.{Chip}
 use Rattle.state.specs.declared.Gauge.{Gauge}
 use Rattle.state.specs.declared.Count.{Count}
 use Rattle.state.specs.declared.Count.the-variants.{Taken, Missing}
-use Rattle.state.specs.Parts.{noGauge, registerAt, voltAt, fanAt}
-use Rattle.state.specs.With.{withZone, withVolt, withFan}
+use Rattle.state.specs.Parts.{noGauge, voltAt, fanAt}
+use Rattle.state.specs.With.{withZone, withVolt, withInError, withFan}
 use Rattle.sense.specs.Missing.{missed}
-use Rattle.sense.specs.Events.{feedsThree, feedsFour, fedZone, tookVoltage, tookFan}
+use Rattle.sense.specs.Events.{fedZone, fed-each, readVolt, tookVoltage, tookFan}
 use Rattle.sense.specs.Keeps.{temperature-keeps, voltage-keeps, fan-keeps, hot-keeps, pin-keeps, reset-keeps, missed-keeps}
 use Rattle.laws.specs.Never.{never}
 use Rattle.bus.specs.Transactions.{write-keeps, read-keeps, read-block-keeps, write-block, after, afterAll, transactions-keep}
@@ -30,9 +30,10 @@ use Rattle.theorems.specs.Taken.{IsTaken}
 
 -- ---- events that give no voltage and no fan count
 
--- d has the voltages and the fan counts of c
+-- d has the voltages and the fan counts of c, and the same channels in error
 pub record SameGauges (c d : Chip) : Type 0 where
   pub volts : d .volts ≡ c .volts
+  pub erring : d .erring ≡ c .erring
   pub fans : d .fans ≡ c .fans
 
 -- an event gives a voltage, or a fan count, or neither
@@ -45,23 +46,23 @@ pub data Gives : Event → Type 0 where
 pub gives : (e : Event) → Gives e
 unfolding takenStep quietStep tickAnswer writtenAnswer readAnswer seenBlockAnswer writtenBlockAnswer after afterAll
 gives (Temperature zone r) =
-    neither (λ c bytes. let k = temperature-keeps c (zone - 1) r in record { volts = k .volts; fans = k .fans })
+    neither (λ c bytes. let k = temperature-keeps c (zone - 1) r in record { volts = k .volts; erring = k .erring; fans = k .fans })
 gives (Voltage channel n) = volt channel n
 gives (Fan number n) = fan number n
-gives (Hot input level) = neither (λ c bytes. let k = hot-keeps c (input - 1) _ in record { volts = k .volts; fans = k .fans })
-gives (Pin level) = neither (λ c bytes. let k = pin-keeps c _ in record { volts = k .volts; fans = k .fans })
+gives (Hot input level) = neither (λ c bytes. let k = hot-keeps c (input - 1) _ in record { volts = k .volts; erring = k .erring; fans = k .fans })
+gives (Pin level) = neither (λ c bytes. let k = pin-keeps c _ in record { volts = k .volts; erring = k .erring; fans = k .fans })
 gives Tick =
     neither (λ c bytes. let k = tick-keeps (missed c) in
-    record { volts = k .volts ∙ missed-keeps c .volts; fans = k .fans ∙ missed-keeps c .fans })
-gives Reset = neither (λ c bytes. record { volts = reset-keeps c .volts; fans = reset-keeps c .fans })
+    record { volts = k .volts ∙ missed-keeps c .volts; erring = k .erring ∙ missed-keeps c .erring; fans = k .fans ∙ missed-keeps c .fans })
+gives Reset = neither (λ c bytes. record { volts = reset-keeps c .volts; erring = reset-keeps c .erring; fans = reset-keeps c .fans })
 gives (Write address a byte) =
-    neither (λ c bytes. let k = write-keeps c address a byte in record { volts = k .volts; fans = k .fans })
+    neither (λ c bytes. let k = write-keeps c address a byte in record { volts = k .volts; erring = k .erring; fans = k .fans })
 gives (Read address a) =
-    neither (λ c bytes. let k = read-keeps c address a .keeps in record { volts = k .volts; fans = k .fans })
+    neither (λ c bytes. let k = read-keeps c address a .keeps in record { volts = k .volts; erring = k .erring; fans = k .fans })
 gives (ReadBlock address command) =
-    neither (λ c bytes. let k = read-block-keeps c address command .rest .keeps in record { volts = k .volts; fans = k .fans })
+    neither (λ c bytes. let k = read-block-keeps c address command .rest .keeps in record { volts = k .volts; erring = k .erring; fans = k .fans })
 gives (WriteBlock address command) =
-    neither (λ c bytes. let k = transactions-keep c (write-block address command bytes ∷ []) in record { volts = k .volts; fans = k .fans })
+    neither (λ c bytes. let k = transactions-keep c (write-block address command bytes ∷ []) in record { volts = k .volts; erring = k .erring; fans = k .fans })
 
 -- ---- V and F
 
@@ -71,12 +72,8 @@ stays l i j n m own = set-cases (λ (g : Gauge). g .count ≡ Missing) l j i (re
 
 -- the zone that a voltage feeds is none of the voltages
 fed-volts : (c : Chip) (channel : ℕ) (n : Count) → fedZone c channel n .volts ≡ c .volts
-unfolding fedZone withZone
-fed-volts c channel n =
-    pick-each Same (feedsThree (registerAt c TEMPERATURE-SOURCE-SELECT) channel) refl (pick-each Same (feedsFour (registerAt c TEMPERATURE-SOURCE-SELECT) channel) refl refl)
-  where
-    Same : Chip → Type 0
-    Same d = d .volts ≡ c .volts
+unfolding withZone
+fed-volts c channel n = fed-each (λ (d : Chip). d .volts ≡ c .volts) c channel n refl refl refl
 
 -- what an event gives reading i is missing, if the event gives it no taken one; events count from 1
 unless-taken : (event : ℕ → Count → Event) (i k : ℕ) (n : Count) → ((m : ℕ) → event (suc k) n ≡ event (suc i) (Taken m) → ⊥) → suc k - 1 ≡ i → n ≡ Missing
@@ -86,7 +83,7 @@ unless-taken event i k (Taken m) h e = absurd (h m (ap (λ (j : ℕ). event (suc
 module _ (c : Chip) (i : ℕ) where
   -- V
   voltage-missing : (j : ℕ) (n : Count) → voltAt c i ≡ Missing → (j ≡ i → n ≡ Missing) → voltAt (tookVoltage c j n) i ≡ Missing
-  unfolding tookVoltage withVolt voltAt
+  unfolding tookVoltage readVolt withVolt withInError voltAt
   voltage-missing j n m own =
       pick-each (λ (d : Chip). voltAt d i ≡ Missing) (ltb j 16) (rw (fed-volts _ j n) (stays (c .volts) i j n m own)) m
 

@@ -19,6 +19,8 @@ pub mod FollowedZones
 pub mod MissingZones
 pub mod UnreadFans
 pub mod WholeCounts
+pub mod VoltReadings
+pub mod HeldErrors
 pub mod LockMarks
 pub mod LockKeeps
 pub mod LockHolds

@@ -15,13 +15,12 @@ use Rattle.state.specs.declared.Setup.{Setup}
 use Rattle.state.specs.declared.Zone.{Zone}
 use Rattle.state.specs.declared.Count.{Count}
 use Rattle.state.specs.declared.Count.the-variants as count
-use Rattle.state.specs.Parts.{noZone, registerAt, zoneAt}
+use Rattle.state.specs.Parts.{noZone, registerAt, zoneAt, inError}
 use Rattle.state.specs.PowerOn.{powerOn}
-use Rattle.state.specs.With.{withRegisters, withVolt}
-use Rattle.sense.specs.Errors.{comparedVolt}
+use Rattle.state.specs.With.{withVolt, withInError}
 use Rattle.sense.specs.Missing.{missed}
-use Rattle.sense.specs.Marks.{compared-volt-marks}
-use Rattle.sense.specs.Events.{zoneHeard, tookTemperature, voltReading, feedsThree, feedsFour, fedZone, tookVoltage}
+use Rattle.sense.specs.Marks.{erred-volt-marks}
+use Rattle.sense.specs.Events.{zoneHeard, tookTemperature, voltReading, feedsThree, feedsFour, fedZone, readVolt, tookVoltage}
 use Rattle.sense.specs.Keeps.{fan-keeps, hot-keeps, pin-keeps, reset-keeps, missed-keeps}
 use Rattle.laws.specs.Never.{never}
 use Rattle.bus.specs.Transactions.{read-keeps, read-block-keeps}
@@ -51,11 +50,11 @@ module _ (c : Chip) (z : ℕ) (m : Lost z c) where
 module _ (c : Chip) (z : ℕ) (m : Lost z c) where
   -- V
   voltage-lost : (channel : ℕ) (n : Count) → (Feeds (sourceOf c) channel z → voltReading n ≡ Missing) → Lost z (tookVoltage c channel n)
-  unfolding tookVoltage withVolt zoneAt registerAt
+  unfolding tookVoltage readVolt withVolt withInError zoneAt registerAt
   voltage-lost channel n own =
       pick-where (Lost z) (ltb channel 16)
-      (λ l. let same = compared-volt-marks (c .registers) channel (ltb→lt channel 16 l) n .other TEMPERATURE-SOURCE-SELECT (λ s. omega arith) in
-      fed-lost (withRegisters (withVolt c channel n) (comparedVolt (c .registers) channel n)) z m channel n (rw same own))
+      (λ l. let same = erred-volt-marks (c .registers) channel (ltb→lt channel 16 l) (inError c channel) n .other TEMPERATURE-SOURCE-SELECT (λ s. omega arith) in
+      fed-lost (readVolt c channel n) z m channel n (rw same own))
       m
 
 -- ---- from power-on

@@ -4,8 +4,8 @@ use mathlib.Core.Path.{sym, _∙_}
 use native.Mathlib.Omega.{arith}
 use borrow.Author.Needs.{needs}
 use borrow.Author.Tests.{eqb-false}
-use Rattle.state.specs.Parts.{registerAt}
-use Rattle.state.specs.With.{withRegister, withZone, withVolt, withFan, withHotInput}
+use Rattle.state.specs.Parts.{registerAt, inError}
+use Rattle.state.specs.With.{withRegister, withZone, withVolt, withInError, withFan, withHotInput}
 use Rattle.sense.specs.Events.{tookTemperature, fedZone, tookHot, tookPin, tookReset, voltage-by-parts, fan-by-parts}
 use Rattle.bus.specs.Latch.{transacted}
 use Rattle.bus.specs.Write.{changed, wrote-by-parts}
@@ -80,8 +80,28 @@ element-set-from-gauge c =
     let p = passed (g .before .before .before .is-taken .ensures) (g .before .before .if1 .taken) (g .event2 .given .1) in
     place 16 _ _ (p .inside) .below
 
+cast-before : tie.Need-cast-before
+cast-before c = search needs
+
+element-copy-out-before : tie.Need-element-copy-out-before
+unfolding eventIn
+element-copy-out-before c =
+    let g = c .before in
+    let p = passed (g .before .before .before .is-taken .ensures) (g .before .before .if1 .taken) (g .event2 .given .1) in
+    place 16 _ _ (p .inside) .below
+
 compare-voltage-requires : tie.Need-compare-voltage-requires
 compare-voltage-requires c κs = search needs
+
+cast-next : tie.Need-cast-next
+cast-next c = search needs
+
+element-write-next : tie.Need-element-write-next
+unfolding eventIn
+element-write-next c =
+    let g = c .before .before .before .before in
+    let p = passed (g .before .before .before .is-taken .ensures) (g .before .before .if1 .taken) (g .event2 .given .1) in
+    place 16 _ _ (p .inside) .below
 
 cast-source-2 : tie.Need-cast-source-2
 cast-source-2 c = search needs
@@ -143,12 +163,12 @@ sub-at-4 c =
 level-of-requires : tie.Need-level-of-requires
 level-of-requires c κs = search needs
 
-cast-next : tie.Need-cast-next
-cast-next c = search needs
+cast-next-2 : tie.Need-cast-next-2
+cast-next-2 c = search needs
 
-element-write-next : tie.Need-element-write-next
+element-write-next-2 : tie.Need-element-write-next-2
 unfolding eventIn
-element-write-next c =
+element-write-next-2 c =
     let g = c .before .before in
     let p = passed (g .before .before .before .is-taken .ensures) (g .before .before .if1 .taken) (g .event4 .given .1) in
     place 4 _ _ (p .inside) .below
@@ -210,11 +230,11 @@ enum-told-3 c = search needs
 enum-known-home : tie.Need-enum-known-home
 enum-known-home c = search needs
 
-cast-next-2 : tie.Need-cast-next-2
-cast-next-2 c = search needs
+cast-next-3 : tie.Need-cast-next-3
+cast-next-3 c = search needs
 
-element-write-next-2 : tie.Need-element-write-next-2
-element-write-next-2 c = search needs
+element-write-next-3 : tie.Need-element-write-next-3
+element-write-next-3 c = search needs
 
 enum-known-zone : tie.Need-enum-known-zone
 enum-known-zone c = search needs
@@ -282,30 +302,30 @@ returns-2 c =
     taken-step p _ (rw (sym (c .before .hears-zone .ensures) ∙ c .if2 .left))
 
 returns-3 : tie.Need-returns-3
-unfolding eventIn takenStep quietStep fedZone withVolt withZone registerAt
+unfolding eventIn takenStep quietStep fedZone withVolt withInError inError withZone registerAt
 returns-3 c =
     let v = c .before .before .before .before in
-    let g = v .before .before .before in
+    let g = v .before .before .before .before in
     let p = passed (g .before .before .before .is-taken .ensures) (g .before .before .if1 .taken) (g .event2 .given .1) in
-    taken-step p _ (rw (voltage-by-parts _ _ _ (place 16 _ _ (p .inside) .below), ← v .compare-voltage .ensures, sym (c .before .feeds-three .ensures) ∙ c .if3 .taken, c .before .before .volt-reading .ensures))
+    taken-step p _ (rw (voltage-by-parts _ _ _ (place 16 _ _ (p .inside) .below), ← v .compare-voltage .ensures .0, ← v .compare-voltage .ensures .1, sym (c .before .feeds-three .ensures) ∙ c .if3 .taken, c .before .before .volt-reading .ensures))
 
 returns-4 : tie.Need-returns-4
-unfolding eventIn takenStep quietStep fedZone withVolt withZone registerAt
+unfolding eventIn takenStep quietStep fedZone withVolt withInError inError withZone registerAt
 returns-4 c =
     let three = c .before .before in
     let v = three .before .before .before .before in
-    let g = v .before .before .before in
+    let g = v .before .before .before .before in
     let p = passed (g .before .before .before .is-taken .ensures) (g .before .before .if1 .taken) (g .event2 .given .1) in
-    taken-step p _ (rw (voltage-by-parts _ _ _ (place 16 _ _ (p .inside) .below), ← v .compare-voltage .ensures, sym (three .before .feeds-three .ensures) ∙ three .if3 .left, sym (c .before .feeds-four .ensures) ∙ c .if4 .taken, three .before .before .volt-reading .ensures))
+    taken-step p _ (rw (voltage-by-parts _ _ _ (place 16 _ _ (p .inside) .below), ← v .compare-voltage .ensures .0, ← v .compare-voltage .ensures .1, sym (three .before .feeds-three .ensures) ∙ three .if3 .left, sym (c .before .feeds-four .ensures) ∙ c .if4 .taken, three .before .before .volt-reading .ensures))
 
 returns-5 : tie.Need-returns-5
-unfolding eventIn takenStep quietStep fedZone withVolt registerAt
+unfolding eventIn takenStep quietStep fedZone withVolt withInError inError registerAt
 returns-5 c =
     let three = c .before .before in
     let v = three .before .before .before .before in
-    let g = v .before .before .before in
+    let g = v .before .before .before .before in
     let p = passed (g .before .before .before .is-taken .ensures) (g .before .before .if1 .taken) (g .event2 .given .1) in
-    taken-step p _ (rw (voltage-by-parts _ _ _ (place 16 _ _ (p .inside) .below), ← v .compare-voltage .ensures, sym (three .before .feeds-three .ensures) ∙ three .if3 .left, sym (c .before .feeds-four .ensures) ∙ c .if4 .left))
+    taken-step p _ (rw (voltage-by-parts _ _ _ (place 16 _ _ (p .inside) .below), ← v .compare-voltage .ensures .0, ← v .compare-voltage .ensures .1, sym (three .before .feeds-three .ensures) ∙ three .if3 .left, sym (c .before .feeds-four .ensures) ∙ c .if4 .left))
 
 returns-6 : tie.Need-returns-6
 unfolding eventIn takenStep quietStep withFan
@@ -453,7 +473,11 @@ step-spec =
     cast-gauge
     mul-gauge
     element-set-from-gauge
+    cast-before
+    element-copy-out-before
     compare-voltage-requires
+    cast-next
+    element-write-next
     cast-source-2
     element-copy-out-source-2
     volt-reading-requires
@@ -470,8 +494,8 @@ step-spec =
     enum-known-event-4
     sub-at-4
     level-of-requires
-    cast-next
-    element-write-next
+    cast-next-2
+    element-write-next-2
     enum-known-event-5
     level-of-requires-2
     enum-told
@@ -491,8 +515,8 @@ step-spec =
     change-of-requires
     enum-told-3
     enum-known-home
-    cast-next-2
-    element-write-next-2
+    cast-next-3
+    element-write-next-3
     enum-known-zone
     with-reading-requires
     enum-known-event-7
