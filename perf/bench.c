@@ -1,5 +1,5 @@
-// The bench's job as a plain C program, written from documents 01 and 02 and the data sheet's register list for comparison: same
-// input, same output. It shares nothing with the Rattle sources. usage: bench < session
+// The bench's job as a plain C program, written from documents 01 and 02 and the data sheet's register list for comparison:
+// same input, same output. It shares nothing with the Rattle sources. usage: bench < session
 #include <stdint.h>
 #include <stdio.h>
 #include <string.h>
@@ -62,7 +62,7 @@ struct chip {
     struct setup s;
     uint8_t reg[256];
     int zone[6]; // 1a, 1b, 2a, 2b, 3, 4 in half degrees
-    int volt[16], fan[4], hot[4];
+    int volt[16], in_error[16], fan[4], hot[4];
     int kept[4];        // the high byte of each fan's count that a read of its low byte kept, or MISSING for none
     int level, latched; // the pin; the slave address, or 0
     int step[4], boosted[6], ramp[4], wait[4], duty[2], start[2];
@@ -108,12 +108,32 @@ static void mark_fan(struct chip *c, int i)
     c->reg[0x4F] |= 1 << i;
 }
 
+static int low_limit(const struct chip *c, int i) { return c->reg[0x90 + 2 * i]; }
+
+static int high_limit(const struct chip *c, int i) { return c->reg[0x91 + 2 * i]; }
+
 static int fan_limit(const struct chip *c, int i) { return c->reg[0xB5 + 2 * i] << 6 | c->reg[0xB4 + 2 * i] >> 2; }
+
+static int outside_limits(const struct chip *c, int i, int n) { return n < low_limit(c, i) || n > high_limit(c, i); }
+
+// "at least low plus VH and at most high minus VH"; "A low limit of 00h and a high limit of FFh are not moved."
+static int ends_error(const struct chip *c, int i, int n)
+{
+    int low = low_limit(c, i), high = high_limit(c, i), vh = c->reg[0xBC] & 0x07;
+    return n >= (low == 0x00 ? low : low + vh) && n <= (high == 0xFF ? high : high - vh);
+}
+
+// "each taken reading in between sets the bit again"
+static void compare_volt(struct chip *c, int i, int n)
+{
+    c->in_error[i] = outside_limits(c, i, n) || (c->in_error[i] && !ends_error(c, i, n));
+    if (c->in_error[i]) mark_volt(c, i);
+}
 
 static void take_volt(struct chip *c, int i, int n)
 {
     c->volt[i] = n;
-    if (n != MISSING && (n < c->reg[0x90 + 2 * i] || n > c->reg[0x91 + 2 * i])) mark_volt(c, i);
+    if (n != MISSING) compare_volt(c, i, n);
     int source = c->reg[0x31], h = n == MISSING || n == 0 ? MISSING : 2 * (n - 128);
     if (i == 10 && source & 0x01 && !(source & 0x10)) c->zone[4] = h;
     if (i == 14 && source & 0x02) c->zone[5] = h;
@@ -271,7 +291,7 @@ static int errors(const struct chip *c)
 static void tick(struct chip *c, int output[2])
 {
     for (int i = 0; i < 16; i++)
-        if (c->volt[i] == MISSING && !(c->reg[0x90 + 2 * i] == 0x00 && c->reg[0x91 + 2 * i] == 0xFF)) mark_volt(c, i);
+        if (c->volt[i] == MISSING && !(low_limit(c, i) == 0x00 && high_limit(c, i) == 0xFF)) mark_volt(c, i);
     for (int i = 0; i < 4; i++)
         if (c->fan[i] == MISSING && fan_limit(c, i) != 0x3FFF) mark_fan(c, i);
 

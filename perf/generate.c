@@ -266,12 +266,21 @@ static void odd_block_line(void)
     if (one_in(4)) misspell();
 }
 
-static void write_own(int a, int b)
+static void write_to(int address, int a, int b)
 {
     add("W");
-    byte(own_address());
+    byte(address);
     byte(a);
     byte(b);
+}
+
+static void write_own(int a, int b) { write_to(own_address(), a, b); }
+
+static void read_own(int a)
+{
+    add("R");
+    byte(own_address());
+    byte(a);
 }
 
 // ---- fan counts
@@ -310,14 +319,130 @@ static void refused_fan_line(int fan)
     refused = 1;
 }
 
+// ---- voltages
+
+static int held[256]; // guessed: the limits and BCh, at their addresses
+
+static int low_limit(int channel) { return held[0x90 + 2 * channel]; }
+
+static int high_limit(int channel) { return held[0x91 + 2 * channel]; }
+
+static int vh(void) { return held[0xBC] & 7; }
+
+static int within_byte(int n) { return n < 0 ? 0 : n > 255 ? 255 : n; }
+
+static int corner_reading(int channel)
+{
+    int low = low_limit(channel), high = high_limit(channel), near = below(8);
+    int corners[] = {low - 1, low, low + 1, low + vh() - 1, low + vh(), low + near,
+                     high - near, high - vh(), high - vh() + 1, high - 1, high, high + 1};
+    return within_byte(corners[below(12)]);
+}
+
+enum place { OUTSIDE, IN_BETWEEN, ENDING };
+
+static enum place place_of(int channel, int n)
+{
+    int low = low_limit(channel), high = high_limit(channel);
+    if (n < low || n > high) return OUTSIDE;
+    return (low > 0x00 && n < low + vh()) || (high < 0xFF && n > high - vh()) ? IN_BETWEEN : ENDING;
+}
+
+// any reading where none is found
+static int reading_at(int channel, enum place place)
+{
+    int n = corner_reading(channel);
+    for (int i = 0; i < 20 && place_of(channel, n) != place; i++) n = one_in(4) ? below(256) : corner_reading(channel);
+    return n;
+}
+
+static void volt_event(int channel)
+{
+    add("V");
+    number(channel + 1);
+}
+
+static void refused_volt_line(int channel)
+{
+    if (one_in(2)) volt_event(one_in(2) ? -1 : 16), number(corner_reading(channel));
+    else volt_event(channel), number(one_in(2) ? -1 : 256);
+    refused = 1;
+}
+
+struct window {
+    int low, high;
+};
+
+static struct window some_window(void)
+{
+    struct window w;
+    w.low = between(8, 120);
+    w.high = w.low + between(15, 120);
+    switch (below(24)) {
+    case 0: w.low = below(2); break;
+    case 1: w.high = 0xFE + below(2); break;
+    case 2: w.low = 0x00; w.high = 0xFF; break;
+    case 3: w.low = below(2); w.high = below(16); break;
+    case 4: w.low = 0x00; w.high = below(7); break;
+    case 5: w.low = 255 - below(16); w.high = 0xFE + below(2); break;
+    case 6: w.low = 0xFE; w.high = 0xFE + below(2); break;
+    case 7: case 8: w.high = w.low + below(16); break;
+    case 9: w.high = w.low; break;
+    case 10: w.high = w.low - between(1, 8); break;
+    case 11: w.low = w.high = 0x00; break;
+    case 12: w.low = w.high = 0xFF; break;
+    }
+    return w;
+}
+
+static void write_windows(void)
+{
+    add("P");
+    byte(own_address());
+    byte(0xF9);
+    byte(32);
+    for (int i = 0; i < 16; i++) {
+        struct window w = some_window();
+        byte(w.low);
+        byte(w.high);
+    }
+}
+
+static int moved_limit(int limit) { return one_in(5) ? 0xFF * below(2) : within_byte(limit + between(-8, 8)); }
+
+static void write_for_another(int channel)
+{
+    int address = other_address(), limit = 0x90 + 2 * channel + below(2);
+    if (one_in(2)) write_to(address, 0xBC, below(256));
+    else write_to(address, limit, moved_limit(held[limit]));
+}
+
+enum { BMC = 0x41, HOST = 0x49 };
+
+static int status_register(int channel, int group) { return group + channel / 8; }
+
+static void clear_bit(int channel, int group)
+{
+    int bit = 1 << channel % 8;
+    write_own(status_register(channel, group), one_in(3) ? 0xFF : one_in(8) ? ~bit : bit);
+}
+
 // ---- scenes
 
 // Lines that belong together, parted by spaces. G and P: a right block line, of the command that ends in that digit or, for ?, of one that the
-// scene keeps. O: an odd block line. Z: a write of 31h. L: one that sets LOCK. H: one of a half bit. R: a read of zone 3 or 4.
+// scene keeps. O: an odd block line. Z: a write of 31h. L: one that sets LOCK. M: one that sets GMSK. H: one of a half bit. R: a read of
+// zone 3 or 4.
 // Of a fan, a or b of the two that the scene keeps: l and h: a read of its low or high byte. u: of either, for another address. f: its count.
 // s: a count with the high byte that the scene keeps. m: missing. w: a write of either byte. e: a refused line.
-// n: a read of a register beside them, or of any. N: a block line of the fan counts that is not acknowledged. *: one of what may stand between two reads of a
-// count. Others: events.
+// n: a read of a register beside them, or of any. N: a block line of the fan counts that is not acknowledged. *: one of what may stand
+// between two reads of a count.
+// Of a channel, a or b of the two that the scene keeps: [ and ]: a write of the low or high limit that the scene keeps. { and }: one that
+// moves it. ( and ): one that makes it 00h or FFh. y: one of either limit or of BCh, for another address.
+// !, ~ and =: a reading outside the limits, in between, or one that ends an error. .: one at a corner of the limits. -: missing.
+// x: a refused line. c and C: a write that clears its bit, now and then the others, in the BMC or the Host group. q and Q: a read of them.
+// ^: a write of BCh with the VH that the scene keeps. 0: with VH 0. v: with any. r: a read of it. |: a block write of the limits of all
+// channels. +: one of what may stand between two readings of a channel.
+// Others: events.
 static const char *const scenes[] = {
     "O O", "O O", "O O O", "O O O", "O O O", "O O G?", "P? O O G?", "O P? O G?", "O A O G?", "G?", "G? G? P? G?", "P? G?", "P? K G?",
     "G2 G3 G4 G5 G7",
@@ -348,22 +473,45 @@ static const char *const first_fan_scenes[] = {
     "la fa ha", "ha fa la fa ha", "fa la fa ha", "ua la fa ha", "fa ua A fa ha la fa ha", "A ua A fa la fa ha", "la A fa ha", "ea S la fa ha",
     "ea ea S fa la fa S ha", "S fa la fa S ha", "la S fa ha ha",
 };
+static const char *const volt_starts[] = {"^ [a ]a", "]a [a ^", "^ [a ]a [b ]b", "^ |", "^ |", "| ^", "L ^ |", "Z ^ [a ]a"};
+static const char *const volt_scenes[] = {
+    "!a ca ~a qa ca ~a qa", "!a ca Ca ~a qa Qa", "!a Ca ~a ~a Qa Ca ~a Qa", "!a ca ~a qa ca ~a qa ca =a qa ca ~a qa", "!a ~a ~a ca ~a K",
+    "!a ~a Ca ~a Qa Ca =a Qa ~a Qa", "!a =a ca Ca ~a qa Qa", "!a ~a =a ca ~a qa !a ca ~a qa", "~a qa Qa !a ca ~a qa", "~a !a ~a ca =a qa",
+    "!a ca .a qa ca .a qa ca .a qa", "!a Ca .a .a Qa Ca .a Qa", ".a .a ca Ca .a qa Qa", "!a P2 .a G2 P2 .a G2", "!a ~a P3 .a ~a G3 K",
+    "!a + ca Ca ~a qa Qa", "!a ca + ~a qa", "!a ~a ca + ~a qa", "!a =a + ca ~a qa", "=a + ca Ca ~a qa Qa", "!a + + ca ~a qa",
+    "!a ca + ~a ca + ~a qa", "!a ca + ~a + ~a G2 G3 K", "~a + + ca ~a qa",
+    "!a -a ca ~a qa", "!a -a K ca Ca ~a qa Qa", "!a ca -a ~a qa ~a K", "!a =a -a K ca Ca ~a qa Qa", "=a -a K ca ~a qa K", "-a K ca ~a qa",
+    "!a ~a X ca ~a qa K", "!a K ca ~a qa ~a K", "!a =a X ca K ~a qa",
+    "!a {a ca ~a qa", "!a }a Ca ~a Qa", "~a {a ca ~a qa", "=a {a }a ca K qa ~a qa", "!a {a ca =a qa ~a qa", "!a ca {a }a qa ~a qa",
+    "!a v r ca ~a qa", "!a ~a v Ca ~a Qa", "!a ~a v v r ca ~a qa", "!a ~a v K ca ~a qa", "!a ~a {a }a K ca ~a qa", "=a v ca ~a qa",
+    "!a ca =a v ~a qa", "!a | ca ~a qa", "!a =a | Ca ~a Qa", "!a ~a ca | qa ~a qa",
+    "!a ca 0 ^ ~a qa", "!a ~a 0 ca ^ ~a qa", "!a ca ~a 0 K ^ ca ~a qa", "!a 0 .a ^ ca ~a qa",
+    "!a ca -a qa", "!a ~a Ca -a Qa ~a Qa", "!a ca Ca -a qa Qa K ~a", "!a ca ya ~a qa r", "!a ya r ca ~a qa", "!a ca ya ya r ~a qa",
+    "!a (a )a ca -a K qa [a ]a", "!a -a )a (a ca Ca K qa Qa [a ]a", "!a ca (a )a -a K [a ]a ~a qa", "!a (a )a ca .a qa ]a [a",
+    "!a ~a (a )a [a ]a ca ~a qa", "X !a ca ~a qa", "M !a ca Ca ~a qa Qa K", "!a M ca ~a qa", "!a ~a M Ca ~a Qa", "M !a ca X ~a qa",
+    "!a !b ca cb ~a =b qa qb ca ~b qb", "!b ca ~a qa Qb", "!a ca =b ~a qa ~b ~a", "!a !b P2 P3 ~a ~b G2 G3 K", "!a ~b !b ca Cb ~a ~b qa Qb",
+    "L !a {a ca ~a qa v ca ~a qa", "!a L [a ]a ca ~a qa X ~a", "!a L v ca ~a qa X ca ~a qa K",
+    "Z !a ~a R ca ~a qa K", "!a Z ca ~a R qa ~a G4 K", "Z !a =a R -a R ca ~a qa", "!a ~a xa ca ~a xa qa", "=a xa ca ~a qa",
+};
+static const char *const between_readings[] = {
+    "X", "X", "K", "K", "L", "Z", "O", "S", "A", "T", "V", "F", "G2", "G3", "G5", "P2", "P3", "v", "v", "v", "r", "|",
+    "-a", "-a", "-a", "ca", "Ca", "{a", "{a", "}a", "}a", "ya", "ya", "xa", "xa", "!b", "~b", "=b", ".b", "-b", "cb", "M",
+};
 static const char *const long_scenes[] = {"G9 G9 G9 G9 G9 G9 G9 G9", "G9 G9 G9 G9 P9 P9 P9 O", "GC G5 G9 G9 V K"};
 
-static const char *scene = ""; // what is left of it
-static int scene_command, scene_high, scene_fans[2];
+static const char *scene = "", *scene_after = ""; // what is left of it; what comes then
+static int scene_command, scene_high, scene_fans[2], scene_channels[2], scene_vh;
+static struct window scene_windows[2];
 
 static int command_at(const char *digit)
 {
     return *digit == '?' ? scene_command : 0xF0 + (*digit <= '9' ? *digit - '0' : *digit - 'A' + 10);
 }
 
-static int fan_at(const char *letter) { return scene_fans[*letter == 'b']; }
-
 static void line_of(const char *at)
 {
     static const int sources[] = {0x00, 0x01, 0x02, 0x03, 0x10, 0x10, 0x12, 0x13};
-    int command, address, fan = fan_at(at + 1);
+    int command, address, second = at[1] == 'b', fan = scene_fans[second], channel = scene_channels[second];
     switch (*at) {
     case 'G': read_block(own_address(), command_at(at + 1)); break;
     case 'P':
@@ -373,8 +521,9 @@ static void line_of(const char *at)
     case 'O': odd_block_line(); break;
     case 'Z': write_own(0x31, sources[below(8)]); break;
     case 'L': write_own(0xE3, 0x02); break;
+    case 'M': write_own(0xE3, 0x04); break;
     case 'H': write_own(one_in(2) ? 0x20 : 0x22, 0x80); break;
-    case 'R': add("R"); byte(own_address()); byte(between(0x20, 0x23)); break;
+    case 'R': read_own(between(0x20, 0x23)); break;
     case 'T': event_line(T); break;
     case 'V': event_line(V); break;
     case 'F': event_line(F); break;
@@ -390,12 +539,35 @@ static void line_of(const char *at)
     case 'm': fan_event(fan); field("-"); break;
     case 'w': address = 0x6E + 2 * fan + below(2); write_own(address, some_byte(address)); break;
     case 'e': refused_fan_line(fan); break;
-    case 'n': add("R"); byte(own_address()); byte(one_in(2) ? 0x6D + 9 * below(2) : some_register()); break;
+    case 'n': read_own(one_in(2) ? 0x6D + 9 * below(2) : some_register()); break;
     case 'N':
         if (one_in(2)) address = other_address(), read_block(address, 0xF7);
         else write_block(own_address(), 0xF7, 7, 7);
         break;
     case '*': line_of(between_reads[below(sizeof between_reads / sizeof between_reads[0])]); break;
+    case '[': write_own(0x90 + 2 * channel, scene_windows[second].low); break;
+    case ']': write_own(0x91 + 2 * channel, scene_windows[second].high); break;
+    case '{': write_own(0x90 + 2 * channel, moved_limit(low_limit(channel))); break;
+    case '}': write_own(0x91 + 2 * channel, moved_limit(high_limit(channel))); break;
+    case '(': write_own(0x90 + 2 * channel, 0x00); break;
+    case ')': write_own(0x91 + 2 * channel, 0xFF); break;
+    case 'y': write_for_another(channel); break;
+    case '!': volt_event(channel); number(reading_at(channel, OUTSIDE)); break;
+    case '~': volt_event(channel); number(reading_at(channel, IN_BETWEEN)); break;
+    case '=': volt_event(channel); number(reading_at(channel, ENDING)); break;
+    case '.': volt_event(channel); number(corner_reading(channel)); break;
+    case '-': volt_event(channel); field("-"); break;
+    case 'x': refused_volt_line(channel); break;
+    case 'c': clear_bit(channel, BMC); break;
+    case 'C': clear_bit(channel, HOST); break;
+    case 'q': read_own(status_register(channel, BMC)); break;
+    case 'Q': read_own(status_register(channel, HOST)); break;
+    case '^': write_own(0xBC, scene_vh | below(32) << 3); break;
+    case '0': write_own(0xBC, below(32) << 3); break;
+    case 'v': write_own(0xBC, below(256)); break;
+    case 'r': read_own(0xBC); break;
+    case '|': write_windows(); break;
+    case '+': line_of(between_readings[below(sizeof between_readings / sizeof between_readings[0])]); break;
     }
 }
 
@@ -403,7 +575,8 @@ static void scene_line(void)
 {
     line_of(scene);
     scene += strcspn(scene, " ");
-    scene += *scene == ' ';
+    if (*scene) scene++;
+    else scene = scene_after, scene_after = "";
 }
 
 static void begin_scene(const char *const *from, int n)
@@ -417,12 +590,37 @@ static void begin_scene(const char *const *from, int n)
 
 #define BEGIN(list) begin_scene(list, sizeof list / sizeof list[0])
 
+// Once VH is written, the channels and limits most often stay those of the scene before.
+static void begin_volt_scene(void)
+{
+    BEGIN(volt_scenes);
+    if (vh() > 0 && !one_in(4)) return;
+    scene_after = scene;
+    scene = volt_starts[below(sizeof volt_starts / sizeof volt_starts[0])];
+    scene_vh = one_in(12) ? 0 : one_in(6) ? 3 : between(1, 7);
+    scene_channels[0] = one_in(4) ? 10 + 4 * below(2) : one_in(4) ? 6 : below(16);
+    scene_channels[1] = (scene_channels[0] + (one_in(3) ? 8 : between(1, 15))) % 16;
+    for (int i = 0; i < 2; i++) scene_windows[i] = some_window();
+}
+
+static int field_at(int at) { return strtol(line + at, 0, 16); }
+
+static void follow_write(void)
+{
+    line[len] = 0;
+    if (field_at(2) != latched) return;
+    if (line[0] == 'W') held[field_at(5)] = field_at(8);
+    else if (field_at(5) == 0xF9 && field_at(8) == 32)
+        for (int i = 0; i < 32; i++) held[0x90 + i] = field_at(11 + 3 * i);
+}
+
 // keeps the guess after a line
 static void follow(void)
 {
     int pin = line[0] == 'A' || (line[0] == 'S' && !begun);
     if (pin && line[2] >= '0' && line[2] <= '2') level = line[2] - '0';
     if (!latched && strchr("WRGP", line[0]) && line[2] == '2' && line[3] >= 'C' && line[3] <= 'F') latched = slave[level];
+    if (latched && strchr("WP", line[0])) follow_write();
     begun = 1;
 }
 
@@ -446,26 +644,32 @@ static void damage(void)
     }
 }
 
-// with_scenes: block reads and writes, and reads of fan counts, stand between the events, in a few sessions so many block lines that neither
-// they nor their answers fit into 16 KiB
+// with_scenes: block reads and writes, reads of fan counts, and voltages at the corners of their limits stand between the events, in a few
+// sessions so many block lines that neither they nor their answers fit into 16 KiB
 static void session(int with_scenes)
 {
     int lines = between(1, 120), bad = below(4) * 5, begin = 0, more = 0;
+    for (int i = 0; i < 16; i++) held[0x91 + 2 * i] = 0xFF;
     if (with_scenes) {
-        begin = one_in(2) ? between(20, 80) : 10;
+        // so long and so dense that the voltage scenes have their share beside the others
+        lines += 3 * lines / 10;
+        begin = one_in(2) ? between(40, 95) : 18;
         if ((more = one_in(30))) lines = between(200, 900), begin = 95;
         else if (one_in(2)) BEGIN(first_scenes);
         else if (one_in(2)) BEGIN(first_fan_scenes);
+        else begin_volt_scene();
     }
     for (int i = 0; i < lines; i++) {
         len = refused = 0;
         if (!*scene && begin && below(100) < begin) {
             if (more) BEGIN(long_scenes);
+            else if (one_in(3)) begin_volt_scene();
             else if (one_in(2)) BEGIN(scenes);
             else BEGIN(fan_scenes);
         }
         if ((i == 0 && one_in(2)) || one_in(60)) setup_line();
         else if (*scene && !one_in(8)) scene_line();
+        else if (with_scenes && one_in(8)) line_of(one_in(2) ? "~a" : one_in(2) ? ".a" : ".b");
         else event_line(below(20));
         if (bad && below(100) < bad) damage();
         else if (!refused) follow();
