@@ -403,11 +403,12 @@ pub fn show_block(
     }
 }
 
-// Writes a byte to a register, and answers the zones as they are then.
+// Writes a byte to a register, and answers the zones as they are then. It asks for the home and for the change by itself, as `change_of`
+// does: two callers keep `change_home` a function of its own, and the table of the homes is gone from the stack when that looks up others.
 fn write_register(file: &mut [u8; 256], zones: [Zone; 6], register: u8, byte: u8) -> [Zone; 6]
     ensures { λ r. ⌜ (r ≡ wroteRegister (ofZones (now (file .entry)) zones) register byte .zones) × (now (file .exit) ≡ wroteRegister (ofZones (now (file .entry)) zones) register byte .registers) ⌝ }
 {
-    match change_of(file, zones, register, byte) {
+    match change_home(file, zones, map::home_of(register), byte) {
         Change::Nothing => zones,
         Change::Register(home, stored) => {
             file[home as usize] = stored;

@@ -56,7 +56,6 @@ use Rattle.bus.proofs.block_written.Reads.{Learnt as block-written-promise}
 use Rattle.bus.proofs.show_block.Reads.{Learnt as show-block-promise}
 use Rattle.bus.proofs.write_block.Reads.{Learnt as write-block-promise}
 use Rattle.drive.proofs.followed_zone.Reads.{Learnt as followed-zone-promise}
-use Rattle.drive.proofs.table_of.Reads.{Learnt as table-of-promise}
 use Rattle.drive.proofs.new_step.Reads.{Learnt as new-step-promise}
 use Rattle.drive.proofs.asked_duty.Reads.{Learnt as asked-duty-promise}
 use Rattle.drive.proofs.is_boosted.Reads.{Learnt as is-boosted-promise}
@@ -265,9 +264,6 @@ write-block = determined (λ κs a r e p. both p)
 
 pub followed-zone : Result followed-zone-promise
 followed-zone = determined (λ κs a r e p. p)
-
-pub table-of : Result table-of-promise
-table-of = determined (λ κs a r e p. p)
 
 pub new-step : Result new-step-promise
 new-step = determined (λ κs a r e p. p)

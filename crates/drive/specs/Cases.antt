@@ -3,13 +3,14 @@ use mathlib.Core.Path.{_≡_, refl}
 use mathlib.Core.Bool.{true, false}
 use mathlib.Core.List.{[], _∷_}
 use lib.IntN.{pos, negsuc}
+use lib.ListN.{replicate}
 use Rattle.laws.specs.Count.{countTo}
 use Rattle.map.specs.Bits.{isSet}
 use Rattle.temperature.specs.declared.Reading.the-variants.{Taken, Missing}
 use Rattle.state.specs.declared.Boost.the-variants as boost
 use Rattle.state.specs.declared.Override.the-variants as override
 use Rattle.state.specs.PowerOn.{defaultSetup}
-use Rattle.drive.specs.Tables.{unitOf, tableOf, sumTo, isReached, thresholdReached, notAbove, settled, newStep}
+use Rattle.drive.specs.Tables.{Table, tableFrom, unitOf, tableOf, sumTo, isReached, thresholdReached, notAbove, settled, newStep}
 use Rattle.drive.specs.Boosts.{isLatched, isBoosted}
 use Rattle.drive.specs.Ramps.{delayOf, movedLevel, rampedOn}
 use Rattle.drive.specs.Duties.{boundLargest, tablesAsk, fanDuty, loadedStart, kickedFan}
@@ -19,6 +20,19 @@ use Rattle.drive.specs.Duties.{boundLargest, tablesAsk, fanDuty, loadedS
 pub steps : (newStep (tableOf defaultSetup 0x00 0) 12 (Taken (pos 70)) ≡ 3) × (newStep (tableOf defaultSetup 0x00 0) 0 (Taken (pos 70)) ≡ 2) × (newStep (tableOf defaultSetup 0x00 0) 0 (Taken (pos 68)) ≡ 2) × (newStep (tableOf defaultSetup 0x00 0) 0 (Taken (pos 67)) ≡ 1) × (newStep (tableOf defaultSetup 0x00 0) 12 (Taken (negsuc 253)) ≡ 0) × (newStep (tableOf defaultSetup 0x10 0) 0 (Taken (pos 70)) ≡ 5) × (newStep (tableOf defaultSetup 0x10 0) 12 (Taken (pos 70)) ≡ 6) × (newStep (tableOf defaultSetup 0x10 2) 0 (Taken (pos 70)) ≡ 2) × (newStep (tableOf defaultSetup 0x00 3) 5 Missing ≡ 12)
 unfolding newStep tableOf unitOf isSet settled notAbove countTo thresholdReached isReached sumTo defaultSetup
 steps = (refl, refl, refl, refl, refl, refl, refl, refl, refl)
+
+abbrev grouped : Table
+grouped = tableFrom (pos 30) 2 (0 ∷ 0 ∷ 0 ∷ 5 ∷ 0 ∷ 0 ∷ 0 ∷ 0 ∷ 0 ∷ 0 ∷ 0 ∷ 0 ∷ []) 2
+
+abbrev above : Table
+above = tableFrom (pos 127) 2 (replicate 12 15) 15
+
+-- offsets of 0 make equal thresholds: 30 degrees and offsets 0, 0, 0, 5, 0, .. are three thresholds at 60 half degrees and nine at 70. With
+-- a hysteresis of 2, 66 keeps step 12 and 65 does not; it raises no step. 127 degrees and offsets of 15 are thresholds at 284, 314, ..,
+-- above all readings: from step 12, where missing led, 255 plus the hysteresis of 15 is at the first of them, and no further
+pub corners : (newStep grouped 0 (Taken (pos 59)) ≡ 0) × (newStep grouped 0 (Taken (pos 60)) ≡ 3) × (newStep grouped 3 (Taken (pos 69)) ≡ 3) × (newStep grouped 3 (Taken (pos 70)) ≡ 12) × (newStep grouped 12 (Taken (pos 66)) ≡ 12) × (newStep grouped 12 (Taken (pos 65)) ≡ 3) × (newStep above 0 (Taken (pos 255)) ≡ 0) × (newStep above 12 (Taken (pos 255)) ≡ 1) × (newStep above 12 (Taken (pos 253)) ≡ 0)
+unfolding newStep settled notAbove countTo thresholdReached isReached sumTo
+corners = (refl, refl, refl, refl, refl, refl, refl, refl, refl)
 
 -- boost 40 degrees, hysteresis 3: on from 80 half degrees, kept from 74 up, off at 73; missing is on; -10 degrees with its sign
 pub boosts : (isBoosted true (boost.At (pos 40)) 3 (Taken (pos 80)) false ≡ true) × (isBoosted true (boost.At (pos 40)) 3 (Taken (pos 79)) false ≡ false) × (isBoosted true (boost.At (pos 40)) 3 (Taken (pos 74)) true ≡ true) × (isBoosted true (boost.At (pos 40)) 3 (Taken (pos 73)) true ≡ false) × (isBoosted true (boost.At (pos 40)) 3 Missing false ≡ true) × (isBoosted true boost.Off 3 Missing true ≡ false) × (isBoosted false (boost.At (pos 40)) 3 Missing true ≡ false) × (isBoosted true (boost.At (negsuc 9)) 3 (Taken (negsuc 19)) false ≡ true) × (isBoosted true (boost.At (negsuc 9)) 3 (Taken (negsuc 26)) true ≡ false)

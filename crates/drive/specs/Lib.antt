@@ -5,5 +5,6 @@ pub mod Duties
 pub mod Tick
 pub mod Cases
 pub mod Rising
+pub mod Climb
 pub mod TickOrder
 pub mod Range

@@ -25,8 +25,7 @@ use Rattle.state.specs.declared.Boost.the-variants as boost
 use Rattle.state.specs.declared.Override.{Override}
 use Rattle.state.specs.declared.Override.the-variants as override
 use Rattle.state.specs.Valid.{Rising}
-use Rattle.drive.specs.declared.Table.{Table}
-use Rattle.drive.specs.Tables.{zoneIn, joinedZone, zoneOne, zoneTwo, followedZone, sumTo, isReached, thresholdReached, notAbove, settled, newStep, askedDuty}
+use Rattle.drive.specs.Tables.{Table, zoneIn, joinedZone, zoneOne, zoneTwo, followedZone, sumTo, isReached, thresholdReached, notAbove, settled, newStep, askedDuty}
 use Rattle.drive.specs.Boosts.{isLatched, isBoosted}
 use Rattle.drive.specs.Duties.{boundLargest, tablesAsk, fanDuty}
 use Rattle.drive.specs.Tick.{anyOn}
@@ -47,7 +46,7 @@ module _ (t : Table) where
       (λ k q. leZ-trans (pos 2 *ℤ t .base +ℤ pos (t .unit * sumTo (t .offsets) (suc k))) x y q p) 12
 
   -- a reading plus the hysteresis
-  abbrev warmer : ℤ → ℤ
+  abbrev pub warmer : ℤ → ℤ
   warmer h = h +ℤ pos (t .unit * t .hysteresis)
 
   -- the step is the old one, held between the thresholds not above the reading and those not above reading plus hysteresis

@@ -17,7 +17,6 @@ use Rattle.temperature.specs.Temperature.{hotterOf}
 use Rattle.state.specs.declared.Zone.{Zone}
 use Rattle.state.specs.declared.Setup.{Setup}
 use Rattle.state.specs.Parts.{noZone}
-use Rattle.drive.specs.declared.Table.{Table}
 
 -- ---- the zone that a table follows
 
@@ -44,6 +43,17 @@ followedZone zones source bindings table =
     (pick (isSet bindings LUT4-Z2) (zoneTwo zones source) (zoneIn zones 5))))
 
 -- ---- a table's setup
+
+-- base in degrees, how many half degrees a count of its offsets and hysteresis is, and those counts
+pub record Table : Type 0 where
+  pub base : ℤ
+  pub unit : ℕ
+  pub offsets : List ℕ
+  pub hysteresis : ℕ
+
+-- the table that a function is given by its parts
+abbrev pub tableFrom : ℤ → ℕ → List ℕ → ℕ → Table
+tableFrom base unit offsets hysteresis = record { base = base; unit = unit; offsets = offsets; hysteresis = hysteresis }
 
 -- "both count in degrees, or half degrees if LT12_RS or LT34_RS is set": how many half degrees a count is
 unfoldable pub unitOf : Bool → ℕ

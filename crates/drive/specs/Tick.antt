@@ -1,11 +1,14 @@
 -- Document 01, "Fan duties": "Only a tick changes them, in this order." Assumes nothing.
 use mathlib.Core.Path.{_≡_, refl}
-use mathlib.Core.Bool.{Bool, false}
+use mathlib.Core.Bool.{Bool, true, false}
 use mathlib.Core.List.{List, [], _∷_}
 use Prim.Native.Nat.{ℕ}
+use lib.Dec.{ltb}
+use lib.IntN.{ℤ, pos}
 use lib.ListN.{getD}
 use Rattle.laws.specs.Pick.{either}
-use Rattle.map.specs.Names.{TEMPERATURE-SOURCE-SELECT, FAN-CONTROL-BINDINGS, SPECIAL-FUNCTION-CONTROL-2, PWM-RAMP-CONTROL}
+use Rattle.map.specs.Bits.{isSet}
+use Rattle.map.specs.Names.{TEMPERATURE-SOURCE-SELECT, FAN-CONTROL-BINDINGS, SPECIAL-FUNCTION-CONTROL-2, PWM-RAMP-CONTROL, LT12-RS, LT34-RS}
 use Rattle.temperature.specs.declared.Reading.{Reading}
 use Rattle.state.specs.declared.Chip.{Chip}
 use Rattle.state.specs.declared.Drive.{Drive}
@@ -13,11 +16,10 @@ use Rattle.state.specs.declared.Setup.{Setup}
 use Rattle.state.specs.declared.Ramp.{Ramp}
 use Rattle.state.specs.Parts.{noRamp, noBoost, noOverride, registerAt, zoneAt, hotAt}
 use Rattle.state.specs.With.{withDrive}
-use Rattle.state.specs.Made.{ofDrive, ofTables, ofBoosts, ofRamps, ofKick}
-use Rattle.drive.specs.declared.Ask.{Ask}
+use Rattle.state.specs.Made.{ofRegisters, ofZones, ofDrive, ofBoosts, ofRamps, ofKick}
 use Rattle.drive.specs.declared.Kick.{Kick}
 use Rattle.drive.specs.declared.Driven.{Driven}
-use Rattle.drive.specs.Tables.{followedZone, tableOf, newStep, askedDuty}
+use Rattle.drive.specs.Tables.{followedZone, unitOf, tableFrom, tableOf, newStep, askedDuty}
 use Rattle.drive.specs.Boosts.{isBoosted, boostEnabled}
 use Rattle.drive.specs.Ramps.{delayOf, rampedOn}
 use Rattle.drive.specs.Duties.{fanDuty, kickedFan}
@@ -28,8 +30,17 @@ use Rattle.drive.specs.Duties.{fanDuty, kickedFan}
 unfoldable pub followed : Chip → ℕ → Reading
 followed c table = followedZone (c .zones) (registerAt c TEMPERATURE-SOURCE-SELECT) (registerAt c FAN-CONTROL-BINDINGS) table
 
+-- how many half degrees a count of offsets or hysteresis is, by a bit of BDh
+abbrev pub unitBy : Chip → ℕ → ℕ
+unitBy c bit = unitOf (isSet (registerAt c SPECIAL-FUNCTION-CONTROL-2) bit)
+
 unfoldable pub stepAfter : Chip → ℕ → ℕ
 stepAfter c table = newStep (tableOf (c .setup) (registerAt c SPECIAL-FUNCTION-CONTROL-2) table) (getD (c .drive .steps) table 0) (followed c table)
+
+-- a table's step and the duty it asks for
+pub record Ask : Type 0 where
+  pub step : ℕ
+  pub duty : ℕ
 
 unfoldable pub askAfter : Chip → ℕ → Ask
 askAfter c table = record { step = stepAfter c table; duty = askedDuty (c .setup .duties) (stepAfter c table) (followed c table) }
@@ -110,11 +121,21 @@ tickedChip c = record { chip = withDrive c (driveAfter c); outputs = outputsAfte
 
 -- ---- the parts that a tick looks at
 
+-- a table's step: base, unit, offsets and hysteresis, which two tables share, the old step, and the reading that it follows
+module _ (c : Chip) (table : ℕ) {base : ℤ} {unit : ℕ} {reading : Reading} (b : base ≡ getD (c .setup .bases) table (pos 0)) (r : reading ≡ followed (ofZones (c .registers) (c .zones)) table) where
+  pub step-by-parts12 : ltb table 2 ≡ true → unit ≡ unitBy (ofRegisters (c .registers)) LT12-RS → newStep (tableFrom base unit (c .setup .offsets12) (getD (c .setup .hystereses) 0 0)) (getD (c .drive .steps) table 0) reading ≡ askAfter c table .step
+  unfolding askAfter stepAfter tableOf followed registerAt
+  step-by-parts12 p u = rw (p, b, u, r)
+
+  pub step-by-parts34 : ltb table 2 ≡ false → unit ≡ unitBy (ofRegisters (c .registers)) LT34-RS → newStep (tableFrom base unit (c .setup .offsets34) (getD (c .setup .hystereses) 1 0)) (getD (c .drive .steps) table 0) reading ≡ askAfter c table .step
+  unfolding askAfter stepAfter tableOf followed registerAt
+  step-by-parts34 p u = rw (p, b, u, r)
+
 module _ (c : Chip) where
-  -- a table: setup, registers, zones and old steps
-  pub ask-by-parts : (table : ℕ) → askAfter (ofTables (c .setup) (c .registers) (c .zones) (c .drive .steps)) table ≡ askAfter c table
-  unfolding askAfter stepAfter followed registerAt
-  ask-by-parts table = refl
+  -- what a table asks: duties, its new step, and the reading that it follows
+  pub ask-by-parts : (table : ℕ) {step : ℕ} {reading : Reading} → step ≡ askAfter c table .step → reading ≡ followed (ofZones (c .registers) (c .zones)) table → askedDuty (c .setup .duties) step reading ≡ askAfter c table .duty
+  unfolding askAfter followed registerAt
+  ask-by-parts table s r = rw (s, r)
 
   -- boosts: setup, registers, zones and old boosts
   pub boosts-by-parts : boostsAfter (ofBoosts (c .setup) (c .registers) (c .zones) (c .drive .boosts)) ≡ boostsAfter c
@@ -125,6 +146,11 @@ module _ (c : Chip) where
   pub ramps-by-parts : rampsAfter (ofRamps (c .registers) (c .hot) (c .drive .ramps)) ≡ rampsAfter c
   unfolding rampsAfter rampAfter registerAt hotAt
   ramps-by-parts = refl
+
+  -- a fan's duty: setup, what the four tables ask, the ramps' levels and whether any boost is on
+  pub duty-of-by-parts : (fan : ℕ) {a0 a1 a2 a3 : ℕ} {levels : List ℕ} {boosted : Bool} → a0 ≡ askAfter c 0 .duty → a1 ≡ askAfter c 1 .duty → a2 ≡ askAfter c 2 .duty → a3 ≡ askAfter c 3 .duty → levels ≡ levelsOf (rampsAfter c) → boosted ≡ anyOn (boostsAfter c) → dutyAfter (c .setup) fan (a0 ∷ a1 ∷ a2 ∷ a3 ∷ []) levels boosted ≡ dutyOf c fan
+  unfolding dutyOf asksAfter
+  duty-of-by-parts fan p0 p1 p2 p3 l b = rw (p0, p1, p2, p3, l, b)
 
   -- the kick: setup, old duties and old start counts
   pub kick-by-parts : (fan duty : ℕ) → kickAfter (ofKick (c .setup) (c .drive .duties) (c .drive .starts)) fan duty ≡ kickAfter c fan duty

@@ -1,16 +1,14 @@
 // What turns the fans: tables, boosts, ramps, duties and the kick (document 01, "Fan duties").
 ghost use mathlib.Core.Path.{_≡_};
-ghost use Prim.Native.Nat.{suc, max, _<_};
-ghost use lib.IntN.{pos};
-ghost use lib.ListN.{getD};
+ghost use Prim.Native.Nat.{max, _<_};
 ghost use Rattle.laws.specs.Pick.{pick};
-ghost use Rattle.laws.specs.Tab.{tab};
-ghost use Rattle.drive.specs.Tables.{joinedZone, zoneIn, zoneOne, zoneTwo, followedZone, unitOf, tableOf, sumTo, isReached, notAbove, newStep, askedDuty};
+ghost use Rattle.drive.specs.Tables.{joinedZone, zoneIn, zoneOne, zoneTwo, followedZone, unitOf, tableFrom, isReached, newStep, askedDuty};
 ghost use Rattle.drive.specs.Boosts.{isLatched, isBoosted, boostEnabled};
 ghost use Rattle.drive.specs.Ramps.{delayOf, movedLevel, rampedOn};
 ghost use Rattle.drive.specs.Duties.{boundLargest, tablesAsk, fanDuty, loadedStart, kickedFan};
-ghost use Rattle.drive.specs.Tick.{askAfter, boostAfter, boostsAfter, anyOn, rampAfter, rampsAfter, levelsOf, dutyAfter, kickAfter, driven};
-ghost use Rattle.state.specs.Made.{ofDrive, ofTables, ofBoosts, ofRamps, ofKick};
+ghost use Rattle.drive.specs.Tick.{followed, unitBy, boostAfter, boostsAfter, anyOn, rampAfter, rampsAfter, levelsOf, dutyAfter, kickAfter, driven};
+ghost use Rattle.temperature.specs.declared.Reading.the-variants.{Taken};
+ghost use Rattle.state.specs.Made.{ofRegisters, ofZones, ofDrive, ofBoosts, ofRamps, ofKick};
 use map::bits;
 use map::registers;
 use state::Boost;
@@ -26,14 +24,6 @@ const FULL: u16 = 256;
 
 // What a ramp moves by.
 const RAMP_STEP: u16 = 16;
-
-// A table: base in degrees, and how many half degrees a count of its offsets and hysteresis is.
-pub struct Table {
-    pub base: i8,
-    pub unit: u8,
-    pub offsets: [u8; 12],
-    pub hysteresis: u8,
-}
 
 // A fan's output, and what is left of its start count.
 pub struct Kick {
@@ -110,57 +100,11 @@ pub fn followed_zone(zones: [Zone; 6], source: u8, bindings: u8, table: u8) -> R
     }
 }
 
-// How many half degrees a count of an offset or hysteresis is.
+// How many half degrees a count is.
 fn unit_of(halves: bool) -> u8
     ensures { λ r. ⌜ r ≡ unitOf halves ⌝ }
 {
     if halves { 1 } else { 2 }
-}
-
-// A table's setup, by BDh. Tables count from 0.
-pub fn table_of(setup: Setup, control: u8, table: u8) -> Table
-    ensures { λ r. ⌜ r ≡ tableOf setup control table ⌝ }
-{
-    let bases = setup.bases;
-    let base = base_of(bases, table);
-    if table < 2 {
-        let offsets = setup.offsets12;
-        return Table {
-            base: base,
-            unit: unit_of(map::is_set(control, bits::LT12_RS)),
-            offsets: offsets,
-            hysteresis: setup.hystereses[0],
-        };
-    }
-    let offsets = setup.offsets34;
-    Table {
-        base: base,
-        unit: unit_of(map::is_set(control, bits::LT34_RS)),
-        offsets: offsets,
-        hysteresis: setup.hystereses[1],
-    }
-}
-
-fn base_of(bases: [i8; 4], table: u8) -> i8
-    ensures { λ r. ⌜ r ≡ getD bases table (pos 0) ⌝ }
-{
-    let i = table as usize;
-    if i < 4 { bases[i] } else { 0 }
-}
-
-// The sums of a table's first one, two, .. twelve offsets.
-fn sums(offsets: [u8; 12]) -> [u16; 12]
-    ensures { λ r. ⌜ r ≡ tab (λ k. sumTo offsets (suc k)) 12 ⌝ }
-{
-    let mut out = [0u16; 12];
-    let mut sum: u16 = 0;
-    let mut k: usize = 0;
-    while k < 12 {
-        sum += offsets[k] as u16;
-        out[k] = sum;
-        k += 1;
-    }
-    out
 }
 
 // Whether a threshold, as many counts above the base as the sum says, is not above the reading.
@@ -171,39 +115,55 @@ fn is_reached(base: i8, unit: u8, sum: u16, reading: i32) -> bool
     threshold <= reading as i64
 }
 
-// How many of a table's twelve thresholds are not above the reading.
-fn not_above(table: Table, reading: i32) -> u8
-    ensures { λ r. ⌜ r ≡ notAbove table reading ⌝ }
+// An offset as a sum takes it.
+fn wide(offset: u8) -> u16
+    ensures { λ r. ⌜ (r ≡ offset) × (r < 256) ⌝ }
 {
-    let offsets = table.offsets;
-    let rises = sums(offsets);
-    let mut n: u8 = 0;
-    let mut k: usize = 0;
-    while k < 12 {
-        if is_reached(table.base, table.unit, rises[k], reading) {
-            n += 1;
-        }
-        k += 1;
-    }
-    n
+    offset as u16
 }
 
-// A table's new step.
-pub fn new_step(table: Table, old: u8, reading: Reading) -> u8
-    ensures { λ r. ⌜ r ≡ newStep table old reading ⌝ }
+// What a threshold is held against: the reading, or up to the old step the reading plus hysteresis.
+fn limit_at(within: bool, low: i32, high: i32) -> i32
+    ensures { λ r. ⌜ r ≡ pick within high low ⌝ }
+{
+    if within { high } else { low }
+}
+
+// A table's new step at a taken reading. Thresholds never fall, so the first that is above ends the climb, and one sum of offsets that
+// grows with the step is enough.
+fn taken_step(base: i8, unit: u8, hysteresis: u8, offsets: &[u8; 12], old: u8, h: i16) -> u8
+    ensures { λ r. ⌜ r ≡ newStep (tableFrom base unit (now (offsets .entry)) hysteresis) old (Taken h) ⌝ }
+{
+    let low = h as i32;
+    let high = low + (unit as i32) * (hysteresis as i32);
+    let mut step: u8 = 0;
+    let mut sum: u16 = 0;
+    while step < 12 {
+        sum += wide(offsets[step as usize]);
+        if is_reached(base, unit, sum, limit_at(step < old, low, high)) {
+            step += 1;
+        } else {
+            return step;
+        }
+    }
+    step
+}
+
+// A table's new step. Its base is in degrees, its unit says how many half degrees a count of its offsets and hysteresis is.
+pub fn new_step(
+    base: i8,
+    unit: u8,
+    hysteresis: u8,
+    offsets: &[u8; 12],
+    old: u8,
+    reading: Reading,
+) -> u8
+    ensures { λ r. ⌜ r ≡ newStep (tableFrom base unit (now (offsets .entry)) hysteresis) old reading ⌝ }
 {
     let Reading::Taken(h) = reading else {
         return 12;
     };
-    let low = h as i32;
-    let now = not_above(table, low);
-    if now < old {
-        let high = low + (table.unit as i32) * (table.hysteresis as i32);
-        let later = not_above(table, high);
-        if old < later { old } else { later }
-    } else {
-        now
-    }
+    taken_step(base, unit, hysteresis, offsets, old, h)
 }
 
 // The duty that a table asks for at its step.
@@ -392,27 +352,20 @@ fn loaded_start(was: u16, duty: u16, start: u8, start_count: u8) -> u8
 
 // ---- one tick
 
-// A table's step and the duty it asks for, after a tick.
-pub struct Ask {
-    pub step: u8,
-    pub duty: u16,
+// How many half degrees a count of an offset or hysteresis is, by a bit of BDh.
+fn unit_by(file: &[u8; 256], bit: u8) -> u8
+    ensures { λ r. ⌜ r ≡ unitBy (ofRegisters (now (file .entry))) bit ⌝ }
+{
+    unit_of(map::is_set(file[registers::SPECIAL_FUNCTION_CONTROL_2 as usize], bit))
 }
 
-fn ask_after(setup: Setup, file: &[u8; 256], zones: [Zone; 6], steps: [u8; 4], table: u8) -> Ask
-    requires { ⌜ table < 4 ⌝ }
-    ensures { λ r. ⌜ r ≡ askAfter (ofTables setup (now (file .entry)) zones steps) table ⌝ }
+// The reading that a table follows. Tables count from 0.
+fn followed(file: &[u8; 256], zones: [Zone; 6], table: u8) -> Reading
+    ensures { λ r. ⌜ r ≡ followed (ofZones (now (file .entry)) zones) table ⌝ }
 {
     let source = file[registers::TEMPERATURE_SOURCE_SELECT as usize];
     let bindings = file[registers::FAN_CONTROL_BINDINGS as usize];
-    let control = file[registers::SPECIAL_FUNCTION_CONTROL_2 as usize];
-    let reading = followed_zone(zones, source, bindings, table);
-    let was = steps[table as usize];
-    let step = new_step(table_of(setup, control, table), was, reading);
-    let duties = setup.duties;
-    Ask {
-        step: step,
-        duty: asked_duty(duties, step, reading),
-    }
+    followed_zone(zones, source, bindings, table)
 }
 
 fn boost_after(
@@ -514,16 +467,32 @@ fn kick_after(setup: Setup, duties: [u16; 2], starts: [u8; 2], fan: usize, duty:
     )
 }
 
-// One tick of 50 ms: tables, boosts, ramps, duties, kick.
+// One tick of 50 ms: tables, boosts, ramps, duties, kick. Tables 1 and 2 share offsets and hysteresis, 3 and 4 share theirs; each is lent its
+// offsets out of the setup.
 pub fn tick(setup: Setup, file: &[u8; 256], zones: [Zone; 6], hot: [bool; 4], old: Drive) -> Driven
     ensures { λ r. ⌜ r ≡ driven (ofDrive setup (now (file .entry)) zones hot old) ⌝ }
 {
-    let steps_before = old.steps;
-    let a0 = ask_after(setup, file, zones, steps_before, 0);
-    let a1 = ask_after(setup, file, zones, steps_before, 1);
-    let a2 = ask_after(setup, file, zones, steps_before, 2);
-    let a3 = ask_after(setup, file, zones, steps_before, 3);
-    let asks = [a0.duty, a1.duty, a2.duty, a3.duty];
+    let hysteresis12 = setup.hystereses[0];
+    let hysteresis34 = setup.hystereses[1];
+    let bases = setup.bases;
+    let unit12 = unit_by(file, bits::LT12_RS);
+    let unit34 = unit_by(file, bits::LT34_RS);
+    let was = old.steps;
+    let z0 = followed(file, zones, 0);
+    let s0 = new_step(bases[0], unit12, hysteresis12, &setup.offsets12, was[0], z0);
+    let z1 = followed(file, zones, 1);
+    let s1 = new_step(bases[1], unit12, hysteresis12, &setup.offsets12, was[1], z1);
+    let z2 = followed(file, zones, 2);
+    let s2 = new_step(bases[2], unit34, hysteresis34, &setup.offsets34, was[2], z2);
+    let z3 = followed(file, zones, 3);
+    let s3 = new_step(bases[3], unit34, hysteresis34, &setup.offsets34, was[3], z3);
+    let duties = setup.duties;
+    let asks = [
+        asked_duty(duties, s0, z0),
+        asked_duty(duties, s1, z1),
+        asked_duty(duties, s2, z2),
+        asked_duty(duties, s3, z3),
+    ];
     let boosts_before = old.boosts;
     let boosts = boosts_after(setup, file, zones, boosts_before);
     let boosted = any_on(boosts);
@@ -537,7 +506,7 @@ pub fn tick(setup: Setup, file: &[u8; 256], zones: [Zone; 6], hot: [bool; 4], ol
     let kick1 = kick_after(setup, duties_before, starts_before, 0, duty1);
     let kick2 = kick_after(setup, duties_before, starts_before, 1, duty2);
     let drive = Drive {
-        steps: [a0.step, a1.step, a2.step, a3.step],
+        steps: [s0, s1, s2, s3],
         boosts: boosts,
         ramps: ramps,
         duties: [duty1, duty2],

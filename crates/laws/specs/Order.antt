@@ -82,6 +82,11 @@ leZ-plus (pos a) (negsuc b) n p = absurd p
 leZ-plus (negsuc a) (pos b) n p = sub-pos n (suc a) (b + n) (omega arith) (ltb n (suc a))
 leZ-plus (negsuc a) (negsuc b) n p = sub-le n (suc a) n (suc b) (omega (arith, leb→le b a p)) (ltb n (suc a)) (ltb n (suc b)) refl refl
 
+-- more added to the same
+pub leZ-more : (a : ℤ) (m n : ℕ) → m ≤ n → T (leZ (a +ℤ pos m) (a +ℤ pos n))
+leZ-more (pos a) m n l = le→leb (a + m) (a + n) (omega arith)
+leZ-more (negsuc a) m n l = sub-le m (suc a) n (suc a) (omega arith) (ltb m (suc a)) (ltb n (suc a)) refl refl
+
 -- a number added does not lower
 pub leZ-rise : (a : ℤ) (n : ℕ) → T (leZ a (a +ℤ pos n))
 leZ-rise (pos a) n = le→leb a (a + n) (omega arith)

@@ -36,10 +36,6 @@ ofKept file zones volts fans kept = withKept (ofReadings file zones volts fans) 
 abbrev pub ofDrive : Setup → List ℕ → List Zone → List Bool → Drive → Chip
 ofDrive setup file zones hot drive = record { setup = setup; registers = file; zones = zones; volts = fresh .volts; erring = fresh .erring; fans = fresh .fans; kept = fresh .kept; hot = hot; pin = fresh .pin; drive = drive }
 
--- its tables: of the drive the old steps
-abbrev pub ofTables : Setup → List ℕ → List Zone → List ℕ → Chip
-ofTables setup file zones steps = ofDrive setup file zones (fresh .hot) (record { steps = steps; boosts = fresh .drive .boosts; ramps = fresh .drive .ramps; duties = fresh .drive .duties; starts = fresh .drive .starts })
-
 -- its boosts: of the drive the old boosts
 abbrev pub ofBoosts : Setup → List ℕ → List Zone → List Bool → Chip
 ofBoosts setup file zones boosts = ofDrive setup file zones (fresh .hot) (record { steps = fresh .drive .steps; boosts = boosts; ramps = fresh .drive .ramps; duties = fresh .drive .duties; starts = fresh .drive .starts })

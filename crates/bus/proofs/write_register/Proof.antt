@@ -1,13 +1,22 @@
 -- `bus::write_register` meets its contract: each change goes to the part that has it. Assumes nothing.
-use mathlib.Core.Path.{refl, sym, _∙_}
+use mathlib.Core.Path.{_≡_, refl, sym, _∙_}
 use borrow.Author.Needs.{needs}
+use Rattle.state.specs.Made.{ofZones}
 use Rattle.state.specs.With.{withRegister, withZone}
-use Rattle.bus.specs.Write.{changed, wroteRegister}
+use Rattle.bus.specs.Write.{changeOf, changed, wroteRegister}
 use Rattle.bus.proofs.write_register.Statement.{statement}
 use Rattle.bus.proofs.write_register.Tie as tie
 
-change-of-requires : tie.Need-change-of-requires
-change-of-requires c κs = search needs
+home-of-requires : tie.Need-home-of-requires
+home-of-requires c κs = search needs
+
+change-home-requires : tie.Need-change-home-requires
+change-home-requires c κs = search needs
+
+-- the change is that of the register
+change-is : (c : tie.After-change-home) → c .change-home .result ≡ changeOf (ofZones (c .before .before .before .args .file .now) (c .before .before .before .args .zones)) (c .before .before .before .args .register) (c .before .before .before .args .byte)
+unfolding changeOf
+change-is c = c .change-home .ensures ∙ rw (c .before .home-of .ensures)
 
 enum-told : tie.Need-enum-told
 enum-told c = search needs
@@ -29,21 +38,22 @@ with-reading-requires c κs = search needs
 
 returns : tie.Need-returns
 unfolding wroteRegister changed
-returns c = rw (sym (c .before .before .change-of .ensures) ∙ c .enum-told .given .1) (refl, refl)
+returns c = rw (sym (change-is (c .before .before)) ∙ c .enum-told .given .1) (refl, refl)
 
 returns-2 : tie.Need-returns-2
 unfolding wroteRegister changed withRegister
-returns-2 c = rw (sym (c .before .before .before .change-of .ensures) ∙ c .before .home .given .1) (refl, refl)
+returns-2 c = rw (sym (change-is (c .before .before .before)) ∙ c .before .home .given .1) (refl, refl)
 
 returns-3 : tie.Need-returns-3
 unfolding wroteRegister changed withZone
-returns-3 c = rw (sym (c .before .before .before .before .change-of .ensures) ∙ c .before .before .zone .given .1) (c .with-reading .ensures, refl)
+returns-3 c = rw (sym (change-is (c .before .before .before .before)) ∙ c .before .before .zone .given .1) (c .with-reading .ensures, refl)
 
 pub write-register-spec : {M : Type 1} → statement M
 write-register-spec =
     tie.close
     (tie.spec
-    change-of-requires
+    home-of-requires
+    change-home-requires
     enum-told
     enum-known-home
     cast-file
