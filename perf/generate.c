@@ -1,7 +1,8 @@
 // Writes a session for the bench: usage: generate board | generate session SEED | generate base SEED
 // board: a board's forty minutes, 48,000 ticks, each after five temperatures, sixteen voltages, four fan counts and some bus reads, its
-// limits written first. session SEED: a session, valid or damaged, most often a short one, that the seed decides. base SEED: one with the letters
-// of document 01 alone. The board and the base sessions never change, so that counts made on them can be held against each other.
+// limits written first. session SEED: a session, valid or damaged, most often a short one, that the seed decides: scenes of blocks, fan counts,
+// voltages about their limits and temperatures about the tables' thresholds. base SEED: one with the letters of document 01 alone.
+// The board and the base sessions never change, so that counts made on them can be held against each other.
 #include <stdint.h>
 #include <stdio.h>
 #include <stdlib.h>
@@ -321,7 +322,7 @@ static void refused_fan_line(int fan)
 
 // ---- voltages
 
-static int held[256]; // guessed: the limits and BCh, at their addresses
+static int held[256]; // guessed: the limits, BCh, E3h and the registers that the tables ask for, at their addresses
 
 static int low_limit(int channel) { return held[0x90 + 2 * channel]; }
 
@@ -427,6 +428,206 @@ static void clear_bit(int channel, int group)
     write_own(status_register(channel, group), one_in(3) ? 0xFF : one_in(8) ? ~bit : bit);
 }
 
+// ---- tables
+
+// where the numbers stand in a setup, and how many they are
+enum { BASES = 1, OFFSETS = 5, HYSTERESES = 29, DUTIES = 31, BOOSTS = 44, BINDINGS = 51, SETUP = 59 };
+
+enum { ALL_0, ALL_15, ONE_15, MOST_0, MANY_0, MIXED };
+
+static void offset_row(void)
+{
+    int kind = below(12), one = below(12), any;
+    for (int i = 0; i < 12; i++) {
+        any = between(1, 15);
+        switch (kind) {
+        case ALL_0: number(0); break;
+        case ALL_15: number(15); break;
+        case ONE_15: number(i == one ? 15 : 0); break;
+        case MOST_0: number(one_in(4) ? any : 0); break;
+        case MANY_0: number(one_in(2) ? any : 0); break;
+        case MIXED: case MIXED + 1: number(below(16)); break;
+        default: number(below(5));
+        }
+    }
+}
+
+static int some_base(void)
+{
+    switch (below(6)) {
+    case 0: return between(-127, 127);
+    case 1: return one_in(2) ? between(-127, -112) : between(112, 127);
+    }
+    return between(-70, 80);
+}
+
+static int some_hysteresis(void)
+{
+    static const int ends[] = {0, 1, 15};
+    return one_in(3) ? ends[below(3)] : below(16);
+}
+
+// a setup by whose duties each step of a table is seen
+static void table_setup_line(void)
+{
+    int duty = below(12), table = below(4), other = (table + between(1, 3)) % 4, two = one_in(4), hot, override;
+    add("S");
+    number(below(3));
+    for (int i = 0; i < 4; i++) number(some_base());
+    for (int i = 0; i < 2; i++) offset_row();
+    for (int i = 0; i < 2; i++) number(some_hysteresis());
+    for (int i = 0; i < 13; i++) {
+        number(duty);
+        duty += between(1, 20);
+    }
+    for (int i = 0; i < 6; i++) {
+        if (one_in(30)) number(between(-127, 127));
+        else field("-");
+    }
+    number(below(16));
+    for (int i = 0; i < 2; i++) {
+        hot = one_in(8) ? below(16) : 0;
+        number(1 << (i ? other : table) | (two ? 1 << below(4) : 0) | hot << 4);
+    }
+    for (int i = 0; i < 2; i++) override = below(257), number_or_dash(override, one_in(16) ? 2 : 1);
+    for (int i = 0; i < 2; i++) number(one_in(4) ? below(257) : below(4));
+    for (int i = 0; i < 2; i++) number(one_in(4) ? below(5) : 0);
+}
+
+static int setup[SETUP]; // guessed: its numbers, save those that no scene asks for
+
+static void guess_plain_setup(void)
+{
+    for (int i = 0; i < 4; i++) setup[BASES + i] = 30;
+    for (int i = OFFSETS; i < DUTIES; i++) setup[i] = 2;
+    setup[BINDINGS] = 17;
+    setup[BINDINGS + 1] = 4;
+}
+
+// half degrees for one of the table's offsets or hysteresis
+static int unit(int table) { return held[0xBD] >> (4 + table / 2) & 1 ? 1 : 2; }
+
+static int threshold(int table, int k)
+{
+    int sum = 2 * setup[BASES + table];
+    for (int i = 0; i < k; i++) sum += unit(table) * setup[OFFSETS + 12 * (table / 2) + i];
+    return sum;
+}
+
+static int hysteresis(int table) { return unit(table) * setup[HYSTERESES + table / 2]; }
+
+enum { COLDEST = -254, HOTTEST = 255, MISSING = 1000 };
+
+static int in_reach(int h) { return h >= COLDEST && h <= HOTTEST; }
+
+static int within_reach(int h) { return h < COLDEST ? COLDEST : h > HOTTEST ? HOTTEST : h; }
+
+static int threshold_in_reach(int table)
+{
+    int k = between(1, 12);
+    for (int i = 0; i < 8 && !in_reach(threshold(table, k)); i++) k = between(1, 12);
+    return k;
+}
+
+// if the hysteresis reaches over the next threshold, too
+static int crowded(int table, int k)
+{
+    int gap = k < 12 ? threshold(table, k + 1) - threshold(table, k) : 0;
+    return gap > 0 && gap < hysteresis(table);
+}
+
+static int crowded_threshold(int table)
+{
+    int k = threshold_in_reach(table);
+    for (int i = 0; i < 8 && !crowded(table, k); i++) k = threshold_in_reach(table);
+    return k;
+}
+
+static int table_corner(int table, int k)
+{
+    int up = threshold(table, k), down = up - hysteresis(table);
+    int corners[] = {up - 1, up, up + 1, down - 1, down, down + 1};
+    return corners[below(6)];
+}
+
+static int any_table_corner(int table)
+{
+    int k = threshold_in_reach(table);
+    return table_corner(table, k);
+}
+
+static char due[64]; // a line that comes after the present one
+static int due_len;
+
+// the line made so far comes after another
+static void put_off(void)
+{
+    memcpy(due, line, due_len = len);
+    len = 0;
+}
+
+static void due_line(void)
+{
+    memcpy(line, due, len = due_len);
+    due_len = 0;
+}
+
+// zones as in a setup: 1a, 1b, 2a, 2b, 3, 4
+static void temperature(int zone, int h)
+{
+    add("T");
+    number(zone + 1);
+    if (h == MISSING) field("-");
+    else number(h);
+}
+
+// zone 3 or 4
+static void zone_by_bus(int zone, int h)
+{
+    int nth = zone - 4;
+    if (h != MISSING && h & 1) {
+        write_own(0x20 + 2 * nth, 0x80 | below(128));
+        put_off();
+    }
+    write_own(one_in(2) ? 0x52 + nth : 0x21 + 2 * nth, h == MISSING ? 0x80 : h >> 1);
+}
+
+static void zone_by_volt(int zone, int h)
+{
+    volt_event(zone == 4 ? 10 : 14);
+    if (h == MISSING && one_in(2)) field("-");
+    else number(h == MISSING ? 0 : (h >> 1) + 128);
+}
+
+// one of the two has the reading, the other most often a lower one
+static void zone_of_two(int zone, int h)
+{
+    int second = below(2), lower = one_in(12) ? MISSING : within_reach((h == MISSING ? 0 : h) - below(60));
+    temperature(zone + second, h);
+    put_off();
+    temperature(zone + !second, lower);
+}
+
+// gives the zone that a table follows this reading, by two lines where one is not enough
+static void show(int table, int h)
+{
+    int source = held[0x31], second = table % 2, bound = held[0x35] >> (4 + table) & 1;
+    if (h != MISSING) h = within_reach(h);
+    if (bound && source & 0x04 << second) zone_of_two(2 * second, h);
+    else if (bound) temperature(2 * second, h);
+    else if (second ? source & 0x02 : (source & 0x11) == 0x01) zone_by_volt(4 + second, h);
+    else if (second || source & 0x10) zone_by_bus(4 + second, h);
+    else temperature(4, h);
+}
+
+// one that the fan is bound to; any where it is bound to none
+static int bound_table(int fan)
+{
+    int table = below(4);
+    for (int i = 0; i < 4 && !(setup[BINDINGS + fan] >> table & 1); i++) table = (table + 1) % 4;
+    return table;
+}
+
 // ---- scenes
 
 // Lines that belong together, parted by spaces. G and P: a right block line, of the command that ends in that digit or, for ?, of one that the
@@ -442,6 +643,11 @@ static void clear_bit(int channel, int group)
 // x: a refused line. c and C: a write that clears its bit, now and then the others, in the BMC or the Host group. q and Q: a read of them.
 // ^: a write of BCh with the VH that the scene keeps. 0: with VH 0. v: with any. r: a read of it. |: a block write of the limits of all
 // channels. +: one of what may stand between two readings of a channel.
+// Of a table, a or b of the two that the scene keeps, or 1 to 4: @: a reading at the threshold that the scene keeps. < and >: a half degree
+// below or above it. _: at that threshold minus the hysteresis. , and ': a half degree below or above that. %: from there up to the threshold.
+// i and d: at a corner of the next threshold up or down, which the scene then keeps. :: at a corner of any. U: not below any. D: so far below
+// all that hysteresis holds no step. $: missing. W: a write of zone 3 or 4 with a reading at a corner, open or not.
+// B: a write of BDh. Y: of 35h. E: of 31h. p: one of what may stand between two ticks.
 // Others: events.
 static const char *const scenes[] = {
     "O O", "O O", "O O O", "O O O", "O O O", "O O G?", "P? O O G?", "O P? O G?", "O A O G?", "G?", "G? G? P? G?", "P? G?", "P? K G?",
@@ -497,15 +703,73 @@ static const char *const between_readings[] = {
     "X", "X", "K", "K", "L", "Z", "O", "S", "A", "T", "V", "F", "G2", "G3", "G5", "P2", "P3", "v", "v", "v", "r", "|",
     "-a", "-a", "-a", "ca", "Ca", "{a", "{a", "}a", "}a", "ya", "ya", "xa", "xa", "!b", "~b", "=b", ".b", "-b", "cb", "M",
 };
+static const char *const table_starts[] = {
+    "D1 D2 D3 D4 K", "B D1 D2 D3 D4 K", "D4 D3 D2 D1 K", ":1 :2 :3 :4 K", "B :1 :2 :3 :4 K", "K :1 :2 :3 :4 K", "U1 U2 U3 U4 B K",
+    "E D1 D2 D3 D4 K", "Y D1 D2 D3 D4 K", "B E Y :1 :2 :3 :4 K",
+};
+static const char *const table_scenes[] = {
+    "Da K @a K <a K", "Da K <a K @a K <a K", "Da K >a K <a K", "Da K 'a K @a K <a K ,a K", "@a K @a K <a K <a K",
+    "Da K @a K <a K _a K ,a K", "Da K @a K <a K 'a K _a K", "Da K @a K ,a K", "Da K @a K <a K %a K %a K ,a K", "Da K <a K _a K ,a K",
+    "Da K >a K <a K >a K ,a K", "@a K _a K @a K ,a K", "Da Db K @a @b K <a <b K _a _b K", "Da Db K >a @b K <a %b K",
+    "Ua K _a K", "Ua K ,a K", "Ua K 'a K _a K ,a K", "Ua K @a K <a K _a K", "Ua K %a K %a K ,a K", "Ua K ,a K _a K @a K",
+    "$a K _a K ,a K", "$a K @a K <a K", "$a K ,a K @a K", "$a K %a K", "$a K Ua K Da K", "$a K :a K :a K", "@a K $a K _a K ,a K",
+    "@a K $a _a K ,a K", "Da K $a K 'a K", "Ua K $a K >a K _a K",
+    "Da K Ua K Da K", "Ua K Da K Ua K", "Da K Ua K %a K Ua K ,a K", "Ua Ub K Da Ub K Ua Db K",
+    "Da K ia K ia K ia K ia K", "Da K ia K <a K ia K <a K ia K <a K", "Ua K da K da K da K da K",
+    "@a K ia K ia K da K da K da K", "$a K da K da K ia K", "ia K da K ia K ia K da K",
+    ":a K :a K :a K :a K", ":a :b K :a :b K :a :b K", ":1 :2 :3 :4 K :1 :2 :3 :4 K", "@a @b K _a _b K ,a ,b K", "Ua Ub K _a %b K ,a _b K",
+    "Da Db K @a @b K @a ,b K", "$a $b K _a _b K",
+    "Da K @a K B K <a K ,a K", "@a B K B K", "B Da K @a K <a K _a K ,a K", "B Ua K _a K ,a K", "Ua K B _a K B K", "@a K B ,a K B @a K", "B $a K _a K",
+    "Y Da K @a K <a K _a K", "Y :a :b K :a :b K", "@a K Y K _a K", "Ua K Y _a K ,a K", "Y $a K _a K Y K",
+    "E Da K @a K <a K _a K", "E :a :b K :a :b K", "@a K E K _a K", "Ua K E _a K ,a K", "E $a K _a K E K", "E Y B :1 :2 :3 :4 K :1 :2 :3 :4 K",
+    "Wa K Wb K", "E Wa Wb K R R", "Y Wa K :a K Wb K",
+    "Da K @a p K <a p K ,a K", "Ua K p _a K p ,a K", "$a p K p _a K", "Da K p p @a K p K <a K", "@a p p K 'a K", "Ua K %a p K %a K p K",
+};
+static const char *const between_ticks[] = {
+    "X", "K", "K", "A", "T", "T", "V", "F", "O", "S", "P4", "G4", "P?", "G?", "Z", "L", "M", "H", "R", "B", "B", "B", "Ya", "Ya", "Ea", "Ea",
+    "Wa", "Wb", "$a", "$b", ":b", ":b", "Ub", "Db", ":1", ":2", ":3", ":4",
+};
 static const char *const long_scenes[] = {"G9 G9 G9 G9 G9 G9 G9 G9", "G9 G9 G9 G9 P9 P9 P9 O", "GC G5 G9 G9 V K"};
 
 static const char *scene = "", *scene_after = ""; // what is left of it; what comes then
-static int scene_command, scene_high, scene_fans[2], scene_channels[2], scene_vh;
+static int scene_command, scene_high, scene_fans[2], scene_channels[2], scene_vh, scene_tables[2], scene_threshold = 1;
 static struct window scene_windows[2];
 
 static int command_at(const char *digit)
 {
     return *digit == '?' ? scene_command : 0xF0 + (*digit <= '9' ? *digit - '0' : *digit - 'A' + 10);
+}
+
+static int next_threshold(int move)
+{
+    int k = scene_threshold + move;
+    return scene_threshold = k < 1 ? 1 : k > 12 ? 12 : k;
+}
+
+static void table_line_of(const char *at)
+{
+    static const int sources[] = {0x00, 0x00, 0x04, 0x08, 0x0C, 0x10, 0x1C, 0x01, 0x02, 0x12};
+    int table = at[1] >= '1' && at[1] <= '4' ? at[1] - '1' : scene_tables[at[1] == 'b'], zone;
+    int up = threshold(table, scene_threshold), down = up - hysteresis(table);
+    switch (*at) {
+    case '@': show(table, up); break;
+    case '<': show(table, up - 1); break;
+    case '>': show(table, up + 1); break;
+    case '_': show(table, down); break;
+    case ',': show(table, down - 1); break;
+    case '\'': show(table, down + 1); break;
+    case '%': show(table, between(down, up)); break;
+    case 'i': show(table, table_corner(table, next_threshold(1))); break;
+    case 'd': show(table, table_corner(table, next_threshold(-1))); break;
+    case ':': show(table, any_table_corner(table)); break;
+    case 'U': show(table, threshold(table, 12) + below(60)); break;
+    case 'D': show(table, threshold(table, 1) - hysteresis(table) - between(1, 60)); break;
+    case '$': show(table, MISSING); break;
+    case 'W': zone = between(4, 5); zone_by_bus(zone, within_reach(any_table_corner(table))); break;
+    case 'B': write_own(0xBD, below(256)); break;
+    case 'Y': write_own(0x35, one_in(3) ? 0x30 : below(256)); break;
+    case 'E': write_own(0x31, one_in(6) ? below(32) : sources[below(10)]); break;
+    }
 }
 
 static void line_of(const char *at)
@@ -568,11 +832,17 @@ static void line_of(const char *at)
     case 'r': read_own(0xBC); break;
     case '|': write_windows(); break;
     case '+': line_of(between_readings[below(sizeof between_readings / sizeof between_readings[0])]); break;
+    case 'p': line_of(between_ticks[below(sizeof between_ticks / sizeof between_ticks[0])]); break;
+    default: table_line_of(at);
     }
 }
 
 static void scene_line(void)
 {
+    if (due_len) {
+        due_line();
+        return;
+    }
     line_of(scene);
     scene += strcspn(scene, " ");
     if (*scene) scene++;
@@ -603,22 +873,67 @@ static void begin_volt_scene(void)
     for (int i = 0; i < 2; i++) scene_windows[i] = some_window();
 }
 
+// The zones, missing at first, are shown before the first scene, and now and then again.
+static void begin_table_scene(void)
+{
+    static int shown;
+    int fan = below(2);
+    BEGIN(table_scenes);
+    for (int i = 0; i < 2; i++) scene_tables[i] = bound_table(i ? !fan : fan);
+    scene_threshold = one_in(3) ? threshold_in_reach(scene_tables[0]) : crowded_threshold(scene_tables[0]);
+    if (shown && !one_in(4)) return;
+    shown = 1;
+    scene_after = scene;
+    scene = table_starts[below(sizeof table_starts / sizeof table_starts[0])];
+}
+
 static int field_at(int at) { return strtol(line + at, 0, 16); }
+
+// of the lock-marked registers, those that a scene asks for
+static int lock_holds(int a) { return held[0xE3] & 0x02 && (a == 0x31 || a == 0x35 || a == 0xE3); }
 
 static void follow_write(void)
 {
     line[len] = 0;
     if (field_at(2) != latched) return;
-    if (line[0] == 'W') held[field_at(5)] = field_at(8);
-    else if (field_at(5) == 0xF9 && field_at(8) == 32)
+    if (line[0] == 'W') {
+        if (!lock_holds(field_at(5))) held[field_at(5)] = field_at(8);
+    } else if (field_at(5) == 0xF9 && field_at(8) == 32)
         for (int i = 0; i < 32; i++) held[0x90 + i] = field_at(11 + 3 * i);
+}
+
+// asks only for the numbers that setup_line has out of range now and then
+static int in_range(const int *n)
+{
+    int good = n[0] <= 2;
+    for (int i = 0; i < 4; i++) good &= n[BASES + i] <= 127;
+    for (int i = OFFSETS; i < HYSTERESES; i++) good &= n[i] <= 15;
+    for (int i = DUTIES + 1; i < BOOSTS; i++) good &= n[i] >= n[i - 1];
+    for (int i = 0; i < 6; i++) good &= n[BOOSTS + i] >= -127;
+    return good && n[DUTIES] >= 0;
+}
+
+static void follow_setup(void)
+{
+    int n[SETUP];
+    char *at = line + 1;
+    line[len] = 0;
+    for (int i = 0; i < SETUP; i++) n[i] = strtol(at + 1, 0, 10), at += 1 + strcspn(at + 1, "\t");
+    if (!in_range(n)) return;
+    memcpy(setup, n, sizeof setup);
+    level = n[0];
+    begun = 1;
 }
 
 // keeps the guess after a line
 static void follow(void)
 {
-    int pin = line[0] == 'A' || (line[0] == 'S' && !begun);
-    if (pin && line[2] >= '0' && line[2] <= '2') level = line[2] - '0';
+    if (line[0] == 'S') {
+        if (!begun) follow_setup();
+        return;
+    }
+    if (line[0] == 'A' && line[2] >= '0' && line[2] <= '2') level = line[2] - '0';
+    if (line[0] == 'X') held[0xE3] &= ~0x02;
     if (!latched && strchr("WRGP", line[0]) && line[2] == '2' && line[3] >= 'C' && line[3] <= 'F') latched = slave[level];
     if (latched && strchr("WP", line[0])) follow_write();
     begun = 1;
@@ -644,31 +959,38 @@ static void damage(void)
     }
 }
 
-// with_scenes: block reads and writes, reads of fan counts, and voltages at the corners of their limits stand between the events, in a few
-// sessions so many block lines that neither they nor their answers fit into 16 KiB
+// with_scenes: block reads and writes, reads of fan counts, voltages at the corners of their limits, and temperatures at the corners of the
+// tables' thresholds stand between the events, in a few sessions so many block lines that neither they nor their answers fit into 16 KiB,
+// in others a setup made for the tables first
 static void session(int with_scenes)
 {
-    int lines = between(1, 120), bad = below(4) * 5, begin = 0, more = 0;
+    int lines = between(1, 120), bad = below(4) * 5, begin = 0, more = 0, tables = 0;
     for (int i = 0; i < 16; i++) held[0x91 + 2 * i] = 0xFF;
+    held[0x35] = 0x30;
+    guess_plain_setup();
     if (with_scenes) {
-        // so long and so dense that the voltage scenes have their share beside the others
-        lines += 3 * lines / 10;
+        // so long and so dense that each kind of scene has its share beside the others
+        lines += 9 * lines / 10;
         begin = one_in(2) ? between(40, 95) : 18;
         if ((more = one_in(30))) lines = between(200, 900), begin = 95;
+        else if ((tables = one_in(3))) begin = between(60, 95);
         else if (one_in(2)) BEGIN(first_scenes);
         else if (one_in(2)) BEGIN(first_fan_scenes);
         else begin_volt_scene();
     }
     for (int i = 0; i < lines; i++) {
+        int setup_first = tables && !begun;
         len = refused = 0;
-        if (!*scene && begin && below(100) < begin) {
+        if (!*scene && begin && !setup_first && below(100) < begin) {
             if (more) BEGIN(long_scenes);
+            else if (tables ? one_in(2) : one_in(5)) begin_table_scene();
             else if (one_in(3)) begin_volt_scene();
             else if (one_in(2)) BEGIN(scenes);
             else BEGIN(fan_scenes);
         }
-        if ((i == 0 && one_in(2)) || one_in(60)) setup_line();
-        else if (*scene && !one_in(8)) scene_line();
+        if (setup_first) table_setup_line();
+        else if ((i == 0 && one_in(2)) || one_in(60)) setup_line();
+        else if ((*scene || due_len) && !one_in(8)) scene_line();
         else if (with_scenes && one_in(8)) line_of(one_in(2) ? "~a" : one_in(2) ? ".a" : ".b");
         else event_line(below(20));
         if (bad && below(100) < bad) damage();
