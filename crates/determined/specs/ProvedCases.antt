@@ -24,7 +24,9 @@ use Rattle.sense.specs.Cases as sense
 use Rattle.bus.specs.Write.{wroteRegister}
 use Rattle.bus.specs.Read.{Byte, readByte}
 use Rattle.bus.specs.Cases as bus
+use Rattle.drive.specs.declared.Searched.{Searched}
 use Rattle.drive.specs.Tables.{tableOf, newStep}
+use Rattle.drive.specs.Search.{searched}
 use Rattle.drive.specs.Cases as drive
 use Rattle.event.specs.declared.Event.the-variants.{WriteBlock}
 use Rattle.event.specs.Event.{refusalOf}
@@ -55,6 +57,10 @@ sevenAgain low high vh first second =
 -- the chip after a count of channel 11, which feeds zone 3 while INT_AD11 is set in 31h
 abbrev pub eleven : ℕ → Chip → Chip
 eleven n c = tookVoltage c 10 (Taken n)
+
+-- a search from an old step at a taken reading, of table 1 without a setup: thresholds 64, 68, .., 108 half degrees, hysteresis 4
+abbrev pub searchFrom : ℕ → ℕ → Searched
+searchFrom old h = searched (tableOf defaultSetup 0x00 0) old (reading.Taken (pos h))
 
 pub record Cases : Type 0 where
   -- ---- "Lines and refusals"
@@ -125,6 +131,21 @@ pub record Cases : Type 0 where
   -- ---- document 02, Q-4, "Fan counts that are not torn"
   -- R lines of fan counts with F, X and G lines between them, from power-on: their bytes, and those that they print
   pub fan-counts : printedFrom startSession 1 fanInput ≡ fanOutput
+  -- ---- document 02, Q-11, "Count the thresholds looked at"
+  -- "looks upward first and stops at the first threshold above the reading": 72 at 70, 84 at 80
+  pub search-up : (searchFrom 0 70 ≡ record { step = 2; compared = 3 }) × (searchFrom 2 80 ≡ record { step = 5; compared = 4 })
+  -- "only if it has not moved does it look downward, stopping at the first threshold not above reading plus hysteresis": 84 is above 70, 80 and
+  -- 76 are above 74, 72 is not
+  pub search-down : searchFrom 5 70 ≡ record { step = 3; compared = 4 }
+  -- "At either end there is nothing to look at": upward from 12, downward from 0
+  pub search-ends : (searchFrom 12 70 ≡ record { step = 3; compared = 10 }) × (searchFrom 12 108 ≡ record { step = 12; compared = 1 }) × (searchFrom 0 63 ≡ record { step = 0; compared = 1 })
+  -- "is never more than the distance moved plus two": two more of one that stays, and above of one that moves; the distance itself from end to
+  -- end
+  pub search-most : (searchFrom 3 70 ≡ record { step = 3; compared = 2 }) × (searchFrom 0 108 ≡ record { step = 12; compared = 12 }) × (searchFrom 12 59 ≡ record { step = 0; compared = 12 })
+  -- "A missing reading compares none."
+  pub search-missing : searched (tableOf defaultSetup 0x00 0) 5 reading.Missing ≡ record { step = 12; compared = 0 }
+  -- an old step above 12, in a state that somebody made up, is taken as 12
+  pub search-past : (searchFrom 13 70 ≡ record { step = 3; compared = 10 }) × (searchFrom 255 108 ≡ record { step = 12; compared = 1 })
 
 -- two facts that stand in no other crate
 fan-limit : fanLimitAt (fresh .registers) 0 ≡ 0x3FFF
@@ -168,4 +189,10 @@ all = record {
   high-unmoved = (sense.not-moved .4, sense.not-moved .5, sense.not-moved .6, sense.not-moved .7);
   never-ended = (sense.none-ends .1, sense.none-ends .2, sense.none-ends .3, sense.none-ends .4);
   fan-counts = fans-printed;
+  search-up = (drive.searches .0, drive.searches .1);
+  search-down = drive.searches .2;
+  search-ends = (drive.searches .4, drive.searches .5, drive.searches .6);
+  search-most = (drive.searches .3, drive.searches .7, drive.searches .8);
+  search-missing = drive.searches .9;
+  search-past = (drive.searches .10, drive.searches .11);
 }

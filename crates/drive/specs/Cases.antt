@@ -11,6 +11,7 @@ use Rattle.state.specs.declared.Boost.the-variants as boost
 use Rattle.state.specs.declared.Override.the-variants as override
 use Rattle.state.specs.PowerOn.{defaultSetup}
 use Rattle.drive.specs.Tables.{Table, tableFrom, unitOf, tableOf, sumTo, isReached, thresholdReached, notAbove, settled, newStep}
+use Rattle.drive.specs.Search.{upward, downward, walkFrom, walk, searched}
 use Rattle.drive.specs.Boosts.{isLatched, isBoosted}
 use Rattle.drive.specs.Ramps.{delayOf, movedLevel, rampedOn}
 use Rattle.drive.specs.Duties.{boundLargest, tablesAsk, fanDuty, loadedStart, kickedFan}
@@ -33,6 +34,18 @@ above = tableFrom (pos 127) 2 (replicate 12 15) 15
 pub corners : (newStep grouped 0 (Taken (pos 59)) ≡ 0) × (newStep grouped 0 (Taken (pos 60)) ≡ 3) × (newStep grouped 3 (Taken (pos 69)) ≡ 3) × (newStep grouped 3 (Taken (pos 70)) ≡ 12) × (newStep grouped 12 (Taken (pos 66)) ≡ 12) × (newStep grouped 12 (Taken (pos 65)) ≡ 3) × (newStep above 0 (Taken (pos 255)) ≡ 0) × (newStep above 12 (Taken (pos 255)) ≡ 1) × (newStep above 12 (Taken (pos 253)) ≡ 0)
 unfolding newStep settled notAbove countTo thresholdReached isReached sumTo
 corners = (refl, refl, refl, refl, refl, refl, refl, refl, refl)
+
+-- table 1 without a setup: thresholds 64, 68, .., 108 half degrees, hysteresis 4
+abbrev plain : Table
+plain = tableOf defaultSetup 0x00 0
+
+-- document 02, Q-11. From 0 at 70 the search passes 64 and 68, and 72 stops it; from 2 at 80 it passes 72, 76 and 80, and 84 stops it. From 5 at
+-- 70 it is stopped at once by 84, passes 80 and 76, which are above 74, and 72 stops it; at 3 it is stopped by 76 and by 72. From 12 at 70
+-- there is nothing upward: it passes 108 to 76, nine, and 72 stops it. 12 stays at 108; at 0 and 63 there is nothing downward. Nothing stops
+-- it from 0 to 12 and back, where 59 and 4 are 63. Missing compares none. 13 and 255 are taken as 12
+pub searches : (searched plain 0 (Taken (pos 70)) ≡ record { step = 2; compared = 3 }) × (searched plain 2 (Taken (pos 80)) ≡ record { step = 5; compared = 4 }) × (searched plain 5 (Taken (pos 70)) ≡ record { step = 3; compared = 4 }) × (searched plain 3 (Taken (pos 70)) ≡ record { step = 3; compared = 2 }) × (searched plain 12 (Taken (pos 70)) ≡ record { step = 3; compared = 10 }) × (searched plain 12 (Taken (pos 108)) ≡ record { step = 12; compared = 1 }) × (searched plain 0 (Taken (pos 63)) ≡ record { step = 0; compared = 1 }) × (searched plain 0 (Taken (pos 108)) ≡ record { step = 12; compared = 12 }) × (searched plain 12 (Taken (pos 59)) ≡ record { step = 0; compared = 12 }) × (searched plain 5 Missing ≡ record { step = 12; compared = 0 }) × (searched plain 13 (Taken (pos 70)) ≡ record { step = 3; compared = 10 }) × (searched plain 255 (Taken (pos 108)) ≡ record { step = 12; compared = 1 })
+unfolding searched walk walkFrom upward downward newStep tableOf unitOf isSet settled notAbove countTo thresholdReached isReached sumTo defaultSetup
+searches = (refl, refl, refl, refl, refl, refl, refl, refl, refl, refl, refl, refl)
 
 -- boost 40 degrees, hysteresis 3: on from 80 half degrees, kept from 74 up, off at 73; missing is on; -10 degrees with its sign
 pub boosts : (isBoosted true (boost.At (pos 40)) 3 (Taken (pos 80)) false ≡ true) × (isBoosted true (boost.At (pos 40)) 3 (Taken (pos 79)) false ≡ false) × (isBoosted true (boost.At (pos 40)) 3 (Taken (pos 74)) true ≡ true) × (isBoosted true (boost.At (pos 40)) 3 (Taken (pos 73)) true ≡ false) × (isBoosted true (boost.At (pos 40)) 3 Missing false ≡ true) × (isBoosted true boost.Off 3 Missing true ≡ false) × (isBoosted false (boost.At (pos 40)) 3 Missing true ≡ false) × (isBoosted true (boost.At (negsuc 9)) 3 (Taken (negsuc 19)) false ≡ true) × (isBoosted true (boost.At (negsuc 9)) 3 (Taken (negsuc 26)) true ≡ false)

@@ -1,10 +1,13 @@
 pub mod Tables
+pub mod Search
 pub mod Boosts
 pub mod Ramps
 pub mod Duties
 pub mod Tick
 pub mod Cases
 pub mod Rising
-pub mod Climb
+pub mod SearchTurns
+pub mod SearchEnds
+pub mod SearchCount
 pub mod TickOrder
 pub mod Range

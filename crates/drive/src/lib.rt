@@ -1,8 +1,9 @@
 // What turns the fans: tables, boosts, ramps, duties and the kick (document 01, "Fan duties").
 ghost use mathlib.Core.Path.{_≡_};
-ghost use Prim.Native.Nat.{max, _<_};
+ghost use Prim.Native.Nat.{_-_, _*_, _≤_, _<_, min, max};
 ghost use Rattle.laws.specs.Pick.{pick};
-ghost use Rattle.drive.specs.Tables.{joinedZone, zoneIn, zoneOne, zoneTwo, followedZone, unitOf, tableFrom, isReached, newStep, askedDuty};
+ghost use Rattle.drive.specs.Tables.{joinedZone, zoneIn, zoneOne, zoneTwo, followedZone, unitOf, tableFrom, sumTo, isReached, thresholdReached, newStep, askedDuty};
+ghost use Rattle.drive.specs.Search.{lookUp, downward, LooksUp, searched};
 ghost use Rattle.drive.specs.Boosts.{isLatched, isBoosted, boostEnabled};
 ghost use Rattle.drive.specs.Ramps.{delayOf, movedLevel, rampedOn};
 ghost use Rattle.drive.specs.Duties.{boundLargest, tablesAsk, fanDuty, loadedStart, kickedFan};
@@ -24,6 +25,19 @@ const FULL: u16 = 256;
 
 // What a ramp moves by.
 const RAMP_STEP: u16 = 16;
+
+// A table's new step, and how many thresholds the search for it compared.
+pub struct Searched {
+    pub step: u8,
+    pub compared: u8,
+}
+
+// Where a look upward ends, the offsets up to there added, and how many thresholds were compared.
+struct Look {
+    step: usize,
+    sum: u32,
+    compared: u8,
+}
 
 // A fan's output, and what is left of its start count.
 pub struct Kick {
@@ -108,49 +122,115 @@ fn unit_of(halves: bool) -> u8
 }
 
 // Whether a threshold, as many counts above the base as the sum says, is not above the reading.
-fn is_reached(base: i8, unit: u8, sum: u16, reading: i32) -> bool
+fn is_reached(base: i8, unit: u8, sum: u32, reading: i64) -> bool
     ensures { λ r. ⌜ r ≡ isReached base unit sum reading ⌝ }
 {
     let threshold = 2 * (base as i64) + (unit as i64) * (sum as i64);
-    threshold <= reading as i64
+    threshold <= reading
 }
 
 // An offset as a sum takes it.
-fn wide(offset: u8) -> u16
+fn wide(offset: u8) -> u32
     ensures { λ r. ⌜ (r ≡ offset) × (r < 256) ⌝ }
 {
-    offset as u16
+    offset as u32
 }
 
-// What a threshold is held against: the reading, or up to the old step the reading plus hysteresis.
-fn limit_at(within: bool, low: i32, high: i32) -> i32
-    ensures { λ r. ⌜ r ≡ pick within high low ⌝ }
+// The look upward from the old step. The offsets that lead there are added and not compared; from there on each threshold is one offset
+// more, and the first that is above the reading ends it. The hysteresis has no part in a threshold, so the table of the promise has none.
+fn look_up(base: i8, unit: u8, offsets: &[u8; 12], old: u8, reading: i64) -> Look
+    ensures { λ r. ⌜ LooksUp (now (offsets .entry)) (lookUp (thresholdReached (tableFrom base unit (now (offsets .entry)) 0) reading) (min 12 old)) r ⌝ }
 {
-    if within { high } else { low }
-}
-
-// A table's new step at a taken reading. Thresholds never fall, so the first that is above ends the climb, and one sum of offsets that
-// grows with the step is enough.
-fn taken_step(base: i8, unit: u8, hysteresis: u8, offsets: &[u8; 12], old: u8, h: i16) -> u8
-    ensures { λ r. ⌜ r ≡ newStep (tableFrom base unit (now (offsets .entry)) hysteresis) old (Taken h) ⌝ }
-{
-    let low = h as i32;
-    let high = low + (unit as i32) * (hysteresis as i32);
-    let mut step: u8 = 0;
-    let mut sum: u16 = 0;
+    let start = old as usize;
+    let mut step: usize = 0;
+    let mut sum: u32 = 0;
+    let mut compared: u8 = 0;
     while step < 12 {
-        sum += wide(offsets[step as usize]);
-        if is_reached(base, unit, sum, limit_at(step < old, low, high)) {
-            step += 1;
-        } else {
-            return step;
+        let next = sum + wide(offsets[step]);
+        if start <= step {
+            compared += 1;
+            if !is_reached(base, unit, next, reading) {
+                return Look {
+                    step: step,
+                    sum: sum,
+                    compared: compared,
+                };
+            }
         }
+        sum = next;
+        step += 1;
     }
-    step
+    Look {
+        step: step,
+        sum: sum,
+        compared: compared,
+    }
 }
 
-// A table's new step. Its base is in degrees, its unit says how many half degrees a count of its offsets and hysteresis is.
+// The look downward from where the look upward stayed. For each threshold that is above, one offset is taken away.
+fn look_down(base: i8, unit: u8, offsets: &[u8; 12], stayed: Look, held: i64) -> Searched
+    requires { ⌜ (stayed .step ≤ 12) × (stayed .compared ≤ 12) × (stayed .sum ≡ sumTo (now offsets) (stayed .step)) ⌝ }
+    ensures { λ r. ⌜ r ≡ downward (thresholdReached (tableFrom base unit (now (offsets .entry)) 0) held) (stayed .step) (stayed .compared) ⌝ }
+{
+    let mut step = stayed.step;
+    let mut sum = stayed.sum;
+    let mut compared = stayed.compared;
+    while 0 < step {
+        compared += 1;
+        if is_reached(base, unit, sum, held) {
+            return Searched {
+                step: step as u8,
+                compared: compared,
+            };
+        }
+        step -= 1;
+        sum -= wide(offsets[step]);
+    }
+    Searched {
+        step: 0,
+        compared: compared,
+    }
+}
+
+// The search at a taken reading. An old step above 12 is taken as 12, where the look upward ends.
+fn search_taken(base: i8, unit: u8, hysteresis: u8, offsets: &[u8; 12], old: u8, h: i16) -> Searched
+    ensures { λ r. ⌜ r ≡ searched (tableFrom base unit (now (offsets .entry)) hysteresis) old (Taken h) ⌝ }
+{
+    let reading = h as i64;
+    let held = reading + (unit as i64) * (hysteresis as i64);
+    let up = look_up(base, unit, offsets, old, reading);
+    if up.step <= old as usize {
+        return look_down(base, unit, offsets, up, held);
+    }
+    Searched {
+        step: up.step as u8,
+        compared: up.compared,
+    }
+}
+
+// A table's new step, and how many thresholds the search for it compared. The base is in degrees, the unit says how many half degrees a
+// count of offsets and hysteresis is.
 pub fn new_step(
+    base: i8,
+    unit: u8,
+    hysteresis: u8,
+    offsets: &[u8; 12],
+    old: u8,
+    reading: Reading,
+) -> Searched
+    ensures { λ r. ⌜ r ≡ searched (tableFrom base unit (now (offsets .entry)) hysteresis) old reading ⌝ }
+{
+    let Reading::Taken(h) = reading else {
+        return Searched {
+            step: 12,
+            compared: 0,
+        };
+    };
+    search_taken(base, unit, hysteresis, offsets, old, h)
+}
+
+// The step by itself, which is all that a tick asks of the search.
+fn step_alone(
     base: i8,
     unit: u8,
     hysteresis: u8,
@@ -160,10 +240,8 @@ pub fn new_step(
 ) -> u8
     ensures { λ r. ⌜ r ≡ newStep (tableFrom base unit (now (offsets .entry)) hysteresis) old reading ⌝ }
 {
-    let Reading::Taken(h) = reading else {
-        return 12;
-    };
-    taken_step(base, unit, hysteresis, offsets, old, h)
+    let found = new_step(base, unit, hysteresis, offsets, old, reading);
+    found.step
 }
 
 // The duty that a table asks for at its step.
@@ -472,20 +550,20 @@ fn kick_after(setup: Setup, duties: [u16; 2], starts: [u8; 2], fan: usize, duty:
 pub fn tick(setup: Setup, file: &[u8; 256], zones: [Zone; 6], hot: [bool; 4], old: Drive) -> Driven
     ensures { λ r. ⌜ r ≡ driven (ofDrive setup (now (file .entry)) zones hot old) ⌝ }
 {
-    let hysteresis12 = setup.hystereses[0];
-    let hysteresis34 = setup.hystereses[1];
     let bases = setup.bases;
-    let unit12 = unit_by(file, bits::LT12_RS);
-    let unit34 = unit_by(file, bits::LT34_RS);
     let was = old.steps;
+    let hysteresis12 = setup.hystereses[0];
+    let unit12 = unit_by(file, bits::LT12_RS);
     let z0 = followed(file, zones, 0);
-    let s0 = new_step(bases[0], unit12, hysteresis12, &setup.offsets12, was[0], z0);
+    let s0 = step_alone(bases[0], unit12, hysteresis12, &setup.offsets12, was[0], z0);
     let z1 = followed(file, zones, 1);
-    let s1 = new_step(bases[1], unit12, hysteresis12, &setup.offsets12, was[1], z1);
+    let s1 = step_alone(bases[1], unit12, hysteresis12, &setup.offsets12, was[1], z1);
+    let hysteresis34 = setup.hystereses[1];
+    let unit34 = unit_by(file, bits::LT34_RS);
     let z2 = followed(file, zones, 2);
-    let s2 = new_step(bases[2], unit34, hysteresis34, &setup.offsets34, was[2], z2);
+    let s2 = step_alone(bases[2], unit34, hysteresis34, &setup.offsets34, was[2], z2);
     let z3 = followed(file, zones, 3);
-    let s3 = new_step(bases[3], unit34, hysteresis34, &setup.offsets34, was[3], z3);
+    let s3 = step_alone(bases[3], unit34, hysteresis34, &setup.offsets34, was[3], z3);
     let duties = setup.duties;
     let asks = [
         asked_duty(duties, s0, z0),

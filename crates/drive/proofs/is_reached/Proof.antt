@@ -3,7 +3,7 @@ use Prim.Native.Nat.{_*_, _^_, _≤_, _<_}
 use native.Mathlib.Nat.{mul-le-mul}
 use native.Mathlib.Omega.{arith}
 use lib.IntN.{pos, _+ℤ_, _*ℤ_}
-use mir.Syntax.{w8, w32, w64}
+use mir.Syntax.{w8, w64}
 use mir.Val.{SFits}
 use mir.Facts.{toZ-ofZ, toZ-pos, sfits-widen}
 use borrow.Author.Needs.{needs}
@@ -28,8 +28,8 @@ module _ (c : tie.Start) where
   sum63 : c .args .sum < 2 ^ 63
   sum63 = omega arith
 
-  rise : c .args .unit * c .args .sum ≤ 255 * 65535
-  rise = mul-le-mul {n₂ = 255} {m₂ = 65535} (omega arith) (omega arith)
+  rise : c .args .unit * c .args .sum ≤ 255 * 4294967295
+  rise = mul-le-mul {n₂ = 255} {m₂ = 4294967295} (omega arith) (omega arith)
 
   rise64 : SFits w64 (pos (c .args .unit * c .args .sum))
   rise64 = omega (arith, rise)
@@ -37,11 +37,8 @@ module _ (c : tie.Start) where
   threshold64 : SFits w64 (pos 2 *ℤ c .args .base +ℤ pos (c .args .unit * c .args .sum))
   threshold64 = omega (arith, mag-plus (pos 2 *ℤ c .args .base) (c .args .unit * c .args .sum), mag-twice (c .args .base), base8, rise)
 
-  reading32 : SFits w32 (c .args .reading)
-  reading32 = c .fits .reading
-
   reading64 : SFits w64 (c .args .reading)
-  reading64 = sfits-widen tt reading32
+  reading64 = c .fits .reading
 
 cast-threshold : tie.Need-cast-threshold
 cast-threshold c = simp (toZ-ofZ, base8 c) (base64 c)
@@ -61,12 +58,9 @@ mul-threshold-2 c = simp (toZ-pos, unit63 c, sum63 c) (rise64 c)
 add-threshold : tie.Need-add-threshold
 add-threshold c = simp (toZ-ofZ, toZ-pos, base8 c, base64 c, twice64 c, unit63 c, sum63 c, rise64 c) (threshold64 c)
 
-cast-result : tie.Need-cast-result
-cast-result c = simp (toZ-ofZ, reading32 c) (reading64 c)
-
 returns : tie.Need-returns
 unfolding isReached
-returns c = simp (toZ-ofZ, toZ-pos, base8 c, base64 c, twice64 c, unit63 c, sum63 c, rise64 c, threshold64 c, reading32 c, reading64 c)
+returns c = simp (toZ-ofZ, toZ-pos, base8 c, base64 c, twice64 c, unit63 c, sum63 c, rise64 c, threshold64 c, reading64 c)
 
 pub is-reached-spec : {M : Type 1} → statement M
 is-reached-spec =
@@ -78,5 +72,4 @@ is-reached-spec =
     cast-threshold-3
     mul-threshold-2
     add-threshold
-    cast-result
     returns)

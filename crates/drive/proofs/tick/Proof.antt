@@ -14,62 +14,62 @@ use Rattle.drive.proofs.tick.Tie as tie
 element-copy-out-hysteresis12 : tie.Need-element-copy-out-hysteresis12
 element-copy-out-hysteresis12 c = search needs
 
-element-copy-out-hysteresis34 : tie.Need-element-copy-out-hysteresis34
-element-copy-out-hysteresis34 c = search needs
-
 unit-by-requires : tie.Need-unit-by-requires
 unit-by-requires c κs = search needs
-
-unit-by-requires-2 : tie.Need-unit-by-requires-2
-unit-by-requires-2 c κs = search needs
 
 followed-requires : tie.Need-followed-requires
 followed-requires c κs = search needs
 
-array-copy-out-new-step : tie.Need-array-copy-out-new-step
-array-copy-out-new-step c = search needs
+array-copy-out-step-alone : tie.Need-array-copy-out-step-alone
+array-copy-out-step-alone c = search needs
 
-array-read-new-step : tie.Need-array-read-new-step
-array-read-new-step c = search needs
+array-read-step-alone : tie.Need-array-read-step-alone
+array-read-step-alone c = search needs
 
-new-step-requires : tie.Need-new-step-requires
-new-step-requires c κs = search needs
+step-alone-requires : tie.Need-step-alone-requires
+step-alone-requires c κs = search needs
 
 followed-requires-2 : tie.Need-followed-requires-2
 followed-requires-2 c κs = search needs
 
-array-copy-out-new-step-2 : tie.Need-array-copy-out-new-step-2
-array-copy-out-new-step-2 c = search needs
+array-copy-out-step-alone-2 : tie.Need-array-copy-out-step-alone-2
+array-copy-out-step-alone-2 c = search needs
 
-array-read-new-step-2 : tie.Need-array-read-new-step-2
-array-read-new-step-2 c = search needs
+array-read-step-alone-2 : tie.Need-array-read-step-alone-2
+array-read-step-alone-2 c = search needs
 
-new-step-requires-2 : tie.Need-new-step-requires-2
-new-step-requires-2 c κs = search needs
+step-alone-requires-2 : tie.Need-step-alone-requires-2
+step-alone-requires-2 c κs = search needs
+
+element-copy-out-hysteresis34 : tie.Need-element-copy-out-hysteresis34
+element-copy-out-hysteresis34 c = search needs
+
+unit-by-requires-2 : tie.Need-unit-by-requires-2
+unit-by-requires-2 c κs = search needs
 
 followed-requires-3 : tie.Need-followed-requires-3
 followed-requires-3 c κs = search needs
 
-array-copy-out-new-step-3 : tie.Need-array-copy-out-new-step-3
-array-copy-out-new-step-3 c = search needs
+array-copy-out-step-alone-3 : tie.Need-array-copy-out-step-alone-3
+array-copy-out-step-alone-3 c = search needs
 
-array-read-new-step-3 : tie.Need-array-read-new-step-3
-array-read-new-step-3 c = search needs
+array-read-step-alone-3 : tie.Need-array-read-step-alone-3
+array-read-step-alone-3 c = search needs
 
-new-step-requires-3 : tie.Need-new-step-requires-3
-new-step-requires-3 c κs = search needs
+step-alone-requires-3 : tie.Need-step-alone-requires-3
+step-alone-requires-3 c κs = search needs
 
 followed-requires-4 : tie.Need-followed-requires-4
 followed-requires-4 c κs = search needs
 
-array-copy-out-new-step-4 : tie.Need-array-copy-out-new-step-4
-array-copy-out-new-step-4 c = search needs
+array-copy-out-step-alone-4 : tie.Need-array-copy-out-step-alone-4
+array-copy-out-step-alone-4 c = search needs
 
-array-read-new-step-4 : tie.Need-array-read-new-step-4
-array-read-new-step-4 c = search needs
+array-read-step-alone-4 : tie.Need-array-read-step-alone-4
+array-read-step-alone-4 c = search needs
 
-new-step-requires-4 : tie.Need-new-step-requires-4
-new-step-requires-4 c κs = search needs
+step-alone-requires-4 : tie.Need-step-alone-requires-4
+step-alone-requires-4 c κs = search needs
 
 asked-duty-requires : tie.Need-asked-duty-requires
 asked-duty-requires c κs = search needs
@@ -108,29 +108,29 @@ kick-after-requires-2 : tie.Need-kick-after-requires-2
 kick-after-requires-2 c κs = search needs
 
 -- where the four calls for a step started from
-abbrev S1 : tie.After-new-step-arg → tie.Start
-S1 c = c .before .before .before .before .before .before .before .before
+abbrev S1 : tie.After-step-alone-arg → tie.Start
+S1 c = c .before .before .before .before .before .before
 
-abbrev S2 : tie.After-new-step-arg3 → tie.Start
+abbrev S2 : tie.After-step-alone-arg3 → tie.Start
 S2 c = S1 (c .before .before .before .before .before)
 
-abbrev S3 : tie.After-new-step-arg5 → tie.Start
-S3 c = S2 (c .before .before .before .before .before)
+abbrev S3 : tie.After-step-alone-arg5 → tie.Start
+S3 c = S2 (c .before .before .before .before .before .before .before)
 
-abbrev S4 : tie.After-new-step-arg7 → tie.Start
+abbrev S4 : tie.After-step-alone-arg7 → tie.Start
 S4 c = S3 (c .before .before .before .before .before)
 
 -- a base is a signed byte
-base1 : (c : tie.After-new-step-arg) → SFits w8 (getD (S1 c .args .t1 .bases) 0 (pos 0))
+base1 : (c : tie.After-step-alone-arg) → SFits w8 (getD (S1 c .args .t1 .bases) 0 (pos 0))
 base1 c = search needs
 
-base2 : (c : tie.After-new-step-arg3) → SFits w8 (getD (S2 c .args .t1 .bases) 1 (pos 0))
+base2 : (c : tie.After-step-alone-arg3) → SFits w8 (getD (S2 c .args .t1 .bases) 1 (pos 0))
 base2 c = search needs
 
-base3 : (c : tie.After-new-step-arg5) → SFits w8 (getD (S3 c .args .t1 .bases) 2 (pos 0))
+base3 : (c : tie.After-step-alone-arg5) → SFits w8 (getD (S3 c .args .t1 .bases) 2 (pos 0))
 base3 c = search needs
 
-base4 : (c : tie.After-new-step-arg7) → SFits w8 (getD (S4 c .args .t1 .bases) 3 (pos 0))
+base4 : (c : tie.After-step-alone-arg7) → SFits w8 (getD (S4 c .args .t1 .bases) 3 (pos 0))
 base4 c = search needs
 
 returns : tie.Need-returns
@@ -150,18 +150,18 @@ returns c =
     let f4 = n4 .before .before .before .before in
     let n3 = f4 .before in
     let f3 = n3 .before .before .before .before in
-    let n2 = f3 .before in
+    let u2 = f3 .before in
+    let n2 = u2 .before .before in
     let f2 = n2 .before .before .before .before in
     let n1 = f2 .before in
     let f1 = n1 .before .before .before .before in
-    let u2 = f1 .before .before in
-    let u1 = u2 .before in
+    let u1 = f1 .before in
     let p = u1 .before .before .before .before .args in
     let d = ofDrive (p .t1) (p .file .now) (p .zones) (p .hot) (p .old) in
-    let s1 = n1 .new-step .ensures ∙ step-by-parts12 d 0 (toZ-ofZ (base1 (n1 .before .before .before))) (f1 .followed .ensures) refl (u1 .unit-by .ensures) in
-    let s2 = n2 .new-step2 .ensures ∙ step-by-parts12 d 1 (toZ-ofZ (base2 (n2 .before .before .before))) (f2 .followed2 .ensures) refl (u1 .unit-by .ensures) in
-    let s3 = n3 .new-step3 .ensures ∙ step-by-parts34 d 2 (toZ-ofZ (base3 (n3 .before .before .before))) (f3 .followed3 .ensures) refl (u2 .unit-by2 .ensures) in
-    let s4 = n4 .new-step4 .ensures ∙ step-by-parts34 d 3 (toZ-ofZ (base4 (n4 .before .before .before))) (f4 .followed4 .ensures) refl (u2 .unit-by2 .ensures) in
+    let s1 = n1 .step-alone .ensures ∙ step-by-parts12 d 0 (toZ-ofZ (base1 (n1 .before .before .before))) (f1 .followed .ensures) refl (u1 .unit-by .ensures) in
+    let s2 = n2 .step-alone2 .ensures ∙ step-by-parts12 d 1 (toZ-ofZ (base2 (n2 .before .before .before))) (f2 .followed2 .ensures) refl (u1 .unit-by .ensures) in
+    let s3 = n3 .step-alone3 .ensures ∙ step-by-parts34 d 2 (toZ-ofZ (base3 (n3 .before .before .before))) (f3 .followed3 .ensures) refl (u2 .unit-by2 .ensures) in
+    let s4 = n4 .step-alone4 .ensures ∙ step-by-parts34 d 3 (toZ-ofZ (base4 (n4 .before .before .before))) (f4 .followed4 .ensures) refl (u2 .unit-by2 .ensures) in
     let q1 = a1 .asked-duty .ensures ∙ ask-by-parts d 0 s1 (f1 .followed .ensures) in
     let q2 = a2 .asked-duty2 .ensures ∙ ask-by-parts d 1 s2 (f2 .followed2 .ensures) in
     let q3 = a3 .asked-duty3 .ensures ∙ ask-by-parts d 2 s3 (f3 .followed3 .ensures) in
@@ -181,25 +181,25 @@ tick-spec =
     tie.close
     (tie.spec
     element-copy-out-hysteresis12
-    element-copy-out-hysteresis34
     unit-by-requires
-    unit-by-requires-2
     followed-requires
-    array-copy-out-new-step
-    array-read-new-step
-    new-step-requires
+    array-copy-out-step-alone
+    array-read-step-alone
+    step-alone-requires
     followed-requires-2
-    array-copy-out-new-step-2
-    array-read-new-step-2
-    new-step-requires-2
+    array-copy-out-step-alone-2
+    array-read-step-alone-2
+    step-alone-requires-2
+    element-copy-out-hysteresis34
+    unit-by-requires-2
     followed-requires-3
-    array-copy-out-new-step-3
-    array-read-new-step-3
-    new-step-requires-3
+    array-copy-out-step-alone-3
+    array-read-step-alone-3
+    step-alone-requires-3
     followed-requires-4
-    array-copy-out-new-step-4
-    array-read-new-step-4
-    new-step-requires-4
+    array-copy-out-step-alone-4
+    array-read-step-alone-4
+    step-alone-requires-4
     asked-duty-requires
     asked-duty-requires-2
     asked-duty-requires-3
