@@ -1,5 +1,6 @@
-// The bench's job as a plain C program, written from documents 01 and 02 and the data sheet's register list for comparison:
-// same input, same output. It shares nothing with the Rattle sources. usage: bench < session
+// The jobs of the programs bench and searches as a plain C program, written from documents 01 and 02 and the data
+// sheet's register list for comparison: same input, same output. It shares nothing with the Rattle sources.
+// usage: bench < session | bench searches < searches: the second runs the step search of a table on cases, and counts the thresholds compared
 #include <stdint.h>
 #include <stdio.h>
 #include <string.h>
@@ -255,11 +256,21 @@ static void reset_pin(struct chip *c)
 
 static int hotter(int a, int b) { return a == MISSING || b == MISSING ? MISSING : a > b ? a : b; }
 
-static int reached(const struct chip *c, int table, int unit, int h)
+static int reached(int base, int unit, const int *offset, int h)
 {
-    int n = 0, threshold = 2 * c->s.base[table];
-    while (n < 12 && (threshold += unit * c->s.offset[table / 2][n]) <= h) n++; // offsets are never negative
+    int n = 0, threshold = 2 * base;
+    while (n < 12 && (threshold += unit * offset[n]) <= h) n++; // offsets are never negative
     return n;
+}
+
+// by document 01's numbers of thresholds, for a reading that is not missing; the unit is the half degrees that a count of the offsets and of
+// the hysteresis is; called and not inlined it would cost twenty-five instructions a tick more
+static inline __attribute__((always_inline)) int new_step(int base, int unit, const int *offset, int hysteresis, int old, int h)
+{
+    int now = reached(base, unit, offset, h);
+    if (old <= now) return now;
+    int later = reached(base, unit, offset, h + unit * hysteresis);
+    return later < old ? later : old;
 }
 
 static int table_ask(struct chip *c, int table)
@@ -273,13 +284,8 @@ static int table_ask(struct chip *c, int table)
         c->step[table] = 12;
         return 256;
     }
-    int unit = c->reg[0xBD] >> (table < 2 ? 4 : 5) & 1 ? 1 : 2, now = reached(c, table, unit, h);
-    if (c->step[table] > now) {
-        int later = reached(c, table, unit, h + unit * c->s.hysteresis[table / 2]);
-        if (later < c->step[table]) c->step[table] = later;
-    } else {
-        c->step[table] = now;
-    }
+    int unit = c->reg[0xBD] >> (table < 2 ? 4 : 5) & 1 ? 1 : 2, row = table / 2;
+    c->step[table] = new_step(c->s.base[table], unit, c->s.offset[row], c->s.hysteresis[row], c->step[table], h);
     return c->s.duty[c->step[table]];
 }
 
@@ -546,19 +552,23 @@ static inline __attribute__((always_inline)) int take_line(struct chip *c, int *
     return 0;
 }
 
+static void put_refusal(unsigned long number, int refusal)
+{
+    put_char('E');
+    put_number(number);
+    put_number(refusal);
+    put_char('\n');
+}
+
 static void give(struct chip *c, int *begun, const unsigned char *line, int len, unsigned long number)
 {
     if (waiting > (int)sizeof out - 256) flush_out();
     int refusal = take_line(c, begun, line, len);
-    if (refusal) {
-        put_char('E');
-        put_number(number);
-        put_number(refusal);
-        put_char('\n');
-    }
+    if (refusal) put_refusal(number, refusal);
 }
 
-int main(void)
+// inlined beside the searches it would cost an instruction a line more
+static __attribute__((noinline)) int bench(void)
 {
     static unsigned char in[1 << 14], kept[514];
     static struct chip c;
@@ -593,4 +603,131 @@ int main(void)
     if (have) give(&c, &begun, kept, have, number);
     flush_out();
     return 0;
+}
+
+// ---- searches
+
+struct table {
+    int base, unit, offset[12]; // in degrees; the half degrees that a count is; in counts
+};
+
+struct search {
+    int old, reading, hysteresis; // a step, or more than 12; in half degrees, or MISSING; in counts
+};
+
+struct found {
+    int step, compared;
+};
+
+// "Threshold k (1 to 12) is base plus the first k offsets."
+static int threshold(const struct table *t, int k)
+{
+    int h = 2 * t->base;
+    for (int i = 0; i < k; i++) h += t->unit * t->offset[i];
+    return h;
+}
+
+// document 02's walk; an int holds it: no threshold is above 780,554, no reading plus hysteresis above 97,792
+static struct found walk(const struct table *t, const struct search *s)
+{
+    int start = s->old > 12 ? 12 : s->old;
+    struct found f = {start, 0};
+    // "It looks upward first and stops at the first threshold above the reading"; "At either end there is nothing to look at."
+    while (f.step < 12) {
+        f.compared++;
+        if (threshold(t, f.step + 1) > s->reading) break;
+        f.step++;
+    }
+    if (f.step != start) return f;
+    // "only if it has not moved does it look downward, stopping at the first threshold not above reading plus hysteresis"
+    while (f.step > 0) {
+        f.compared++;
+        if (threshold(t, f.step) <= s->reading + t->unit * s->hysteresis) break;
+        f.step--;
+    }
+    return f;
+}
+
+static void put_text(const unsigned char *text, int len)
+{
+    for (int i = 0; i < len; i++) {
+        if (waiting > (int)sizeof out - 256) flush_out();
+        put_char(text[i]);
+    }
+}
+
+// prints the line as it stands, the step by document 01 and the walk's count, and a line with both steps if the walk ends at another one
+static void put_search(const struct table *t, const struct search *s, const unsigned char *line, int len)
+{
+    struct found f = {12, 0}; // "A missing reading compares none."
+    int step = 12;            // "Missing: step 12"
+    if (s->reading != MISSING) {
+        f = walk(t, s);
+        step = new_step(t->base, t->unit, t->offset, s->hysteresis, s->old, s->reading);
+    }
+    put_text(line, len);
+    put_number(step);
+    put_number(f.compared);
+    put_char('\n');
+    if (f.step != step) {
+        put_char('?');
+        put_number(step);
+        put_number(f.step);
+        put_char('\n');
+    }
+}
+
+// takes a title, a table of fourteen numbers or a search of three, and prints its answer, or gives its refusal; a tab stands before the line
+static int take_search_line(struct table *t, const unsigned char *line, int len)
+{
+    const unsigned char *at = line - 1;
+    int n[14], k = 0;
+    if (line[0] == '#') {
+        put_text(line, len + 1);
+        return 0;
+    }
+    while (k < 14 && *at == '\t')
+        if ((n[k++] = decimal(&at)) == WRONG) return 4;
+    if (*at != '\n' || (k != 3 && k != 14)) return 4;
+    if (k == 3) {
+        struct search s = {n[0], n[1], n[2]};
+        if (!within(s.old, 0, 255) || !(s.reading == DASH || within(s.reading, -32767, 32767)) || !within(s.hysteresis, 0, 255)) return 2;
+        put_search(t, &s, line, len);
+    } else {
+        if (!within(n[0], -127, 127)) return 2;
+        for (int i = 1; i < 14; i++)
+            if (!within(n[i], 0, 255)) return 2;
+        t->base = n[0];
+        t->unit = n[1];
+        memcpy(t->offset, n + 2, sizeof t->offset);
+    }
+    return 0;
+}
+
+static int searches(void)
+{
+    enum { MOST = 32768 };
+    static unsigned char in[1 + MOST + 1]; // a byte before the first line; one behind the last, which may lack its line feed
+    struct table t = {30, 2, {2, 2, 2, 2, 2, 2, 2, 2, 2, 2, 2, 2}};
+    unsigned char *line = in + 1, *end = in + 1, *feed;
+    ssize_t n;
+    while (end - line < MOST && (n = read(0, end, MOST - (end - line))) > 0) end += n;
+    *end = '\n';
+    for (unsigned long number = 1; line < end; number++, line = feed + 1) {
+        feed = memchr(line, '\n', end + 1 - line);
+        line[-1] = '\t'; // as before any field; the line feed that stood here is read
+        if (waiting > (int)sizeof out - 256) flush_out();
+        int refusal = take_search_line(&t, line, feed - line);
+        if (refusal) put_refusal(number, refusal);
+    }
+    flush_out();
+    return 0;
+}
+
+int main(int argc, char **argv)
+{
+    if (argc == 1) return bench();
+    if (argc == 2 && strcmp(argv[1], "searches") == 0) return searches();
+    fprintf(stderr, "usage: bench < session | bench searches < searches\n");
+    return 2;
 }

@@ -1,7 +1,9 @@
-// Writes a session for the bench: usage: generate board | generate session SEED | generate base SEED
+// Writes a session for the bench, or an input for the searches.
+// usage: generate board | generate session SEED | generate base SEED | generate searches SEED
 // board: a board's forty minutes, 48,000 ticks, each after five temperatures, sixteen voltages, four fan counts and some bus reads, its
 // limits written first. session SEED: a session, valid or damaged, most often a short one, that the seed decides: scenes of blocks, fan counts,
 // voltages about their limits and temperatures about the tables' thresholds. base SEED: one with the letters of document 01 alone.
+// searches SEED: tables, and step searches about their thresholds, valid or damaged, under 32,000 bytes, that the seed decides.
 // The board and the base sessions never change, so that counts made on them can be held against each other.
 #include <stdint.h>
 #include <stdio.h>
@@ -516,7 +518,7 @@ static int threshold(int table, int k)
 
 static int hysteresis(int table) { return unit(table) * setup[HYSTERESES + table / 2]; }
 
-enum { COLDEST = -254, HOTTEST = 255, MISSING = 1000 };
+enum { COLDEST = -254, HOTTEST = 255, MISSING = 100000 };
 
 static int in_reach(int h) { return h >= COLDEST && h <= HOTTEST; }
 
@@ -1002,6 +1004,232 @@ static void session(int with_scenes)
     }
 }
 
+// ---- searches
+
+enum { LOWEST = -32767, HIGHEST = 32767 }; // what a reading may be
+
+struct lookup {
+    int base, unit, offset[12]; // in degrees; the half degrees that a count of the offsets and of the hysteresis is; in counts
+};
+
+static struct lookup lookup = {30, 2, {2, 2, 2, 2, 2, 2, 2, 2, 2, 2, 2, 2}}; // guessed: that of the last table line taken
+
+static int lookup_threshold(int k)
+{
+    int sum = 2 * lookup.base;
+    for (int i = 0; i < k; i++) sum += lookup.unit * lookup.offset[i];
+    return sum;
+}
+
+static int thresholds_reached(int h)
+{
+    int n = 0;
+    for (int k = 1; k <= 12; k++) n += lookup_threshold(k) <= h;
+    return n;
+}
+
+static int clamp(int n, int low, int high) { return n < low ? low : n > high ? high : n; }
+
+// by document 01's numbers of thresholds
+static int step_after(int old, int h, int hysteresis)
+{
+    if (h == MISSING) return 12;
+    int now = thresholds_reached(h), later = thresholds_reached(h + lookup.unit * hysteresis);
+    return old <= now ? now : old < later ? old : later;
+}
+
+static struct lookup some_lookup(void)
+{
+    static const int largest[] = {1, 2, 4, 4, 8, 15, 15, 15, 15, 63, 63, 63, 255}, zeros_of_8[] = {0, 0, 0, 0, 1, 2, 4, 6, 7, 8};
+    static const int units[] = {0, 3, 255};
+    int most = largest[below(13)], zeros = zeros_of_8[below(10)], alike = one_in(4), any;
+    struct lookup l;
+    l.base = one_in(12) ? (one_in(2) ? -127 : 127) : some_base();
+    l.unit = one_in(8) ? (one_in(4) ? below(256) : units[below(3)]) : between(1, 2);
+    for (int i = 0; i < 12; i++) {
+        any = alike ? most : below(most + 1);
+        l.offset[i] = below(8) < zeros ? 0 : any;
+    }
+    return l;
+}
+
+// these lines have no letter before the first tab
+static void drop_first_tab(void) { replace(0, 1, ""); }
+
+static void lookup_line(const struct lookup *l)
+{
+    number(l->base);
+    number(l->unit);
+    for (int i = 0; i < 12; i++) number(l->offset[i]);
+    drop_first_tab();
+}
+
+// one in three reaches from a threshold to another, or a count less or more
+static int search_hysteresis(void)
+{
+    static const int some[] = {0, 0, 1, 2, 15, 255};
+    int first = below(12), last = clamp(first + below(5), 0, 11), sum = 0;
+    if (one_in(3)) return below(16);
+    if (one_in(2)) return some[below(6)];
+    for (int i = first; i <= last; i++) sum += lookup.offset[i];
+    return within_byte(sum + between(-1, 1));
+}
+
+static int search_corner(int k, int hysteresis)
+{
+    int up = lookup_threshold(k), down = up - lookup.unit * hysteresis, beside = between(-1, 1);
+    return beside + (one_in(2) ? up : down);
+}
+
+static int search_reading(int hysteresis)
+{
+    static const int ends[] = {COLDEST, HOTTEST, LOWEST, HIGHEST};
+    switch (below(20)) {
+    case 0: return MISSING;
+    case 1: return ends[below(4)];
+    case 2: return lookup_threshold(1) - lookup.unit * hysteresis - between(1, 40);
+    case 3: return lookup_threshold(12) + below(40);
+    case 4: return between(COLDEST, HOTTEST);
+    }
+    return search_corner(between(1, 12), hysteresis);
+}
+
+// most often near the step that the reading has, or that reading plus hysteresis has
+static int old_step(int h, int hysteresis)
+{
+    int reach = one_in(2) ? lookup.unit * hysteresis : 0, far = below(13);
+    switch (below(12)) {
+    case 0: return 0;
+    case 1: return 12;
+    case 2: return one_in(2) ? 13 : one_in(2) ? 255 : between(13, 255);
+    case 3: case 4: case 5: return far;
+    }
+    return h == MISSING ? far : clamp(thresholds_reached(h + reach) + between(-2, 2), 0, 12);
+}
+
+static void search_line(int old, int h, int hysteresis)
+{
+    number(old);
+    if (h == MISSING) field("-");
+    else number(h);
+    number(hysteresis);
+    drop_first_tab();
+}
+
+// Some come in a run that goes as ticks do: the hysteresis stays, and the old step is the new one of the search before.
+static void next_search(void)
+{
+    static int run, step, h, hysteresis;
+    int old;
+    if (run == 0 && one_in(10)) {
+        run = between(3, 20);
+        step = below(13);
+        hysteresis = search_hysteresis();
+        h = search_reading(hysteresis);
+    }
+    if (run) {
+        run--;
+        old = step;
+        if (one_in(6)) h = search_reading(hysteresis);
+        else if (h == MISSING || one_in(2)) h = search_corner(clamp(step + between(-1, 2), 1, 12), hysteresis);
+        else h += between(-5, 5);
+    } else {
+        hysteresis = search_hysteresis();
+        h = search_reading(hysteresis);
+        old = old_step(h, hysteresis);
+    }
+    if (h != MISSING) h = clamp(h, LOWEST, HIGHEST);
+    step = step_after(old, h, hysteresis);
+    search_line(old, h, hysteresis);
+}
+
+static void title_line(void)
+{
+    int n = one_in(30) ? between(500, 600) : below(30);
+    if (one_in(4)) next_search();
+    replace(0, 0, "#");
+    for (int i = 0; i < n; i++) line[len++] = one_in(20) ? below(256) : between(' ', '~');
+}
+
+static int fields(void)
+{
+    int n = 1;
+    for (int i = 0; i < len; i++) n += line[i] == '\t';
+    return n;
+}
+
+static void replace_field(int nth, const char *text)
+{
+    int at = 0, n = 0;
+    for (; nth > 0; nth--) at += strcspn(line + at, "\t") + 1;
+    while (at + n < len && line[at + n] != '\t') n++;
+    replace(at, n, text);
+}
+
+static void misspelled_field(void)
+{
+    static const char *const wrong[] = {"", "00", "01", "-0", "-00", "-01", "+1", "+", "--", "--1", "1-", " 1", "1 ", "1\r", "0x1", "1.0",
+                                        "1e1", "A", "K", "/", ":", "1,", "1 2", "\302\262"};
+    int nth = below(fields());
+    replace_field(nth, wrong[below(sizeof wrong / sizeof wrong[0])]);
+}
+
+// a number out of its range, or "-" where none may stand
+static void field_out_of_range(void)
+{
+    static const char *const far[] = {"32768", "-32768", "65535", "65536", "-65536", "4294967295", "4294967296", "-4294967296",
+                                      "18446744073709551616", "1000000", "-1000000", "99999999999999999999999999"};
+    static const char *const near[] = {"-", "256", "-1", "-255"}, *const near_base[] = {"-", "128", "-128", "255"};
+    int n = fields(), nth = n == 14 && one_in(2) ? below(2) : below(n), reading = n == 3 && nth == 1;
+    if (reading || one_in(4)) replace_field(nth, far[reading && one_in(2) ? below(2) : below(12)]);
+    else replace_field(nth, n == 14 && nth == 0 ? near_base[below(4)] : near[below(4)]);
+}
+
+static void other_number_of_fields(void)
+{
+    int n = one_in(3) ? between(1, 16) : fields() + (one_in(2) ? 1 : -1);
+    while (fields() < n) number(below(16));
+    while (fields() > n) {
+        do len--;
+        while (line[len] != '\t');
+    }
+}
+
+// nearly always the line is refused then
+static void spoil(void)
+{
+    switch (line[0] == '#' ? 0 : below(9)) {
+    case 0: damage(); break;
+    case 1: len = 0; event_line(below(20)); break;
+    case 2: other_number_of_fields(); break;
+    case 3: case 4: misspelled_field(); break;
+    case 5: field_out_of_range(); misspelled_field(); break;
+    case 6: field_out_of_range(); if (one_in(4)) other_number_of_fields(); break;
+    default: field_out_of_range();
+    }
+}
+
+static void searches(void)
+{
+    int size = one_in(10) ? between(1, 600) : one_in(20) ? between(20000, 31000) : between(1500, 8000), done = 0;
+    int bad = one_in(3) ? between(10, 60) : below(8);
+    while (done < size) {
+        struct lookup l;
+        int table = 0;
+        len = 0;
+        if (one_in(25)) title_line();
+        else if ((table = one_in(done ? 10 : 2))) l = some_lookup(), lookup_line(&l);
+        else next_search();
+        if (below(100) < bad) spoil();
+        else if (table) lookup = l;
+        for (int k = 0; k < len; k++)
+            if (line[k] == '\n') line[k] = 'n';
+        fwrite(line, 1, len, stdout);
+        done += len + 1;
+        if (done < size || one_in(2)) putchar('\n');
+    }
+}
+
 static void board(void)
 {
     for (int i = 0; i < 16; i++) printf("W\t2C\t%02X\t50\nW\t2C\t%02X\tE0\n", 0x90 + 2 * i, 0x91 + 2 * i);
@@ -1020,12 +1248,13 @@ int main(int argc, char **argv)
     if (argc == 2 && strcmp(argv[1], "board") == 0) {
         state = 1;
         board();
-    } else if (argc == 3 && (strcmp(argv[1], "session") == 0 || strcmp(argv[1], "base") == 0)) {
+    } else if (argc == 3 && (strcmp(argv[1], "session") == 0 || strcmp(argv[1], "base") == 0 || strcmp(argv[1], "searches") == 0)) {
         state = strtoull(argv[2], 0, 10) * 0x9E3779B97F4A7C15u + 1;
         for (int i = 0; i < 8; i++) next();
-        session(argv[1][0] == 's');
+        if (strcmp(argv[1], "searches") == 0) searches();
+        else session(argv[1][0] == 's');
     } else {
-        fprintf(stderr, "usage: generate board | generate session SEED | generate base SEED\n");
+        fprintf(stderr, "usage: generate board | generate session SEED | generate base SEED | generate searches SEED\n");
         return 2;
     }
     return 0;
