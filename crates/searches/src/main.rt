@@ -1,5 +1,6 @@
 // Runs the step search (document 02, Q-11) on cases, one a line: old step, reading and hysteresis, on the table that a line before it gave.
 // It prints the case, the new step and how many thresholds the search compared. A line that begins with # is a title, and printed.
+ghost use Prim.Native.Nat.{_<_};
 use libc::STDERR_FILENO;
 use libc::STDIN_FILENO;
 use libc::STDOUT_FILENO;
@@ -98,6 +99,18 @@ fn byte_at(line: &[u8], k: usize) -> Byte {
     }
 }
 
+fn minus_byte(v: u16) -> i8
+    requires { ⌜ v < 128 ⌝ }
+{
+    0 - v as i8
+}
+
+fn minus_word(v: u16) -> i16
+    requires { ⌜ v < 32768 ⌝ }
+{
+    0 - v as i16
+}
+
 fn degrees_at(line: &[u8], k: usize) -> Degrees {
     match number_at(line, k) {
         Number::Wrong => Degrees::Outside,
@@ -111,7 +124,7 @@ fn degrees_at(line: &[u8], k: usize) -> Degrees {
         }
         Number::Minus(v) => {
             if v < 128 {
-                Degrees::Of(0 - v as i8)
+                Degrees::Of(minus_byte(v))
             } else {
                 Degrees::Outside
             }
@@ -132,7 +145,7 @@ fn reading_at(line: &[u8], k: usize) -> Given {
         }
         Number::Minus(v) => {
             if v < 32768 {
-                Given::Of(Reading::Taken(0 - v as i16))
+                Given::Of(Reading::Taken(minus_word(v)))
             } else {
                 Given::Outside
             }

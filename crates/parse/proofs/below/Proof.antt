@@ -1,11 +1,12 @@
 use mathlib.Core.Path.{_≡_}
-use Prim.Native.Nat.{ℕ, zero, suc, _<_, min}
+use Prim.Native.Nat.{ℕ, _<_, min}
 use native.Mathlib.Omega.{arith}
 use lib.IntN.{pos, negℤ, _-ℤ_, +ℤ-idl}
 use mir.Syntax.{w16}
 use mir.Val.{SFits, toZ, ofZ}
-use mir.Facts.{toZ-ofZ, sfits-lit}
+use mir.Facts.{toZ-ofZ}
 use borrow.Author.Needs.{needs}
+use Rattle.laws.specs.Magnitude.{mag-below}
 use Rattle.parse.proofs.below.Statement.{statement}
 use Rattle.parse.proofs.below.Tie as tie
 
@@ -14,8 +15,7 @@ minus-is : (c : tie.After-above) → pos 0 -ℤ toZ w16 (ofZ w16 (c .above .resu
 minus-is c = rw (toZ-ofZ (record { sfits = c .above .ok }), c .above .ensures) (+ℤ-idl _)
 
 minus-fits : (n : ℕ) → n < 32768 → SFits w16 (negℤ (pos n))
-minus-fits zero h = sfits-lit tt
-minus-fits (suc n) h = omega arith
+minus-fits n h = omega (arith, mag-below n 32768 (omega arith) (omega arith))
 
 above-requires : tie.Need-above-requires
 above-requires c κs = search needs

@@ -1,11 +1,12 @@
 use mathlib.Core.Path.{_≡_}
-use Prim.Native.Nat.{ℕ, zero, suc, _%_, _<_}
+use Prim.Native.Nat.{ℕ, _%_}
 use native.Mathlib.Omega.{arith}
 use lib.IntN.{pos, negℤ, _-ℤ_, +ℤ-idl}
 use mir.Syntax.{w8}
 use mir.Val.{SFits, toZ}
 use mir.Facts.{toZ-ofZ, toZ-pos}
 use borrow.Author.Needs.{needs}
+use Rattle.laws.specs.Magnitude.{mag-below}
 use Rattle.settings.specs.Entries.{heldDegrees}
 use Rattle.settings.proofs.held_degrees.Statement.{statement}
 use Rattle.settings.proofs.held_degrees.Tie as tie
@@ -16,11 +17,7 @@ module _ (v : ℕ) where
   minus = rw (toZ-pos w8 {n = v % 128} (omega arith)) (+ℤ-idl (negℤ (pos (v % 128))))
 
   minus-fits : SFits w8 (pos 0 -ℤ toZ w8 (v % 128))
-  minus-fits = rw minus (fits (v % 128) (omega arith))
-    where
-      fits : (n : ℕ) → n < 128 → SFits w8 (negℤ (pos n))
-      fits zero l = omega arith
-      fits (suc n) l = omega arith
+  minus-fits = rw minus (omega (arith, mag-below (v % 128) 128 (omega arith) (omega arith)))
 
 enum-told : tie.Need-enum-told
 enum-told c = search needs
