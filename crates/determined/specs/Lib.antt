@@ -4,4 +4,5 @@ pub mod Printed
 pub mod PrintedBlocks
 pub mod PrintedVolts
 pub mod PrintedFans
+pub mod PrintedOffsets
 pub mod ProvedCases

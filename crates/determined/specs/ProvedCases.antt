@@ -25,18 +25,22 @@ use Rattle.bus.specs.Write.{wroteRegister}
 use Rattle.bus.specs.Read.{Byte, readByte}
 use Rattle.bus.specs.Cases as bus
 use Rattle.drive.specs.declared.Searched.{Searched}
-use Rattle.drive.specs.Tables.{tableOf, newStep}
+use Rattle.drive.specs.Tables.{tableFrom, tableOf, newStep}
 use Rattle.drive.specs.Search.{searched}
 use Rattle.drive.specs.Cases as drive
+use Rattle.drive.specs.Cases.{tall}
 use Rattle.event.specs.declared.Event.the-variants.{WriteBlock}
 use Rattle.event.specs.Event.{refusalOf}
 use Rattle.event.specs.Run.{answersTo}
 use Rattle.event.specs.Session.{session, answers, session-answers}
+use Rattle.settings.specs.Cases as settings
+use Rattle.settings.specs.Cases.{refusedWith, oldRefusedWith}
 use Rattle.line.specs.Line.{startSession}
 use Rattle.line.specs.Session.{printedFrom}
 use Rattle.determined.specs.Printed.{input, output, printed}
 use Rattle.determined.specs.PrintedVolts.{voltInput, voltOutput, volts-printed}
 use Rattle.determined.specs.PrintedFans.{fanInput, fanOutput, fans-printed}
+use Rattle.determined.specs.PrintedOffsets.{offsetInput, offsetOutput, offsets-printed}
 use Rattle.determined.specs.PrintedBlocks.{blockInput, blockOutput, blocks-printed, RepliesIn, rooms, too-many}
 
 -- the chip at power-on without a setup, with a byte stored at an address
@@ -61,6 +65,10 @@ eleven n c = tookVoltage c 10 (Taken n)
 -- a search from an old step at a taken reading, of table 1 without a setup: thresholds 64, 68, .., 108 half degrees, hysteresis 4
 abbrev pub searchFrom : ℕ → ℕ → Searched
 searchFrom old h = searched (tableOf defaultSetup 0x00 0) old (reading.Taken (pos h))
+
+-- the step from an old step at a taken reading, by base and unit, of a table with twelve offsets of 63 and a hysteresis of 15
+abbrev pub tallFrom : ℕ → ℕ → ℕ → ℕ → ℕ
+tallFrom base unit old h = newStep (tall (pos base) unit) old (reading.Taken (pos h))
 
 pub record Cases : Type 0 where
   -- ---- "Lines and refusals"
@@ -146,6 +154,21 @@ pub record Cases : Type 0 where
   pub search-missing : searched (tableOf defaultSetup 0x00 0) 5 reading.Missing ≡ record { step = 12; compared = 0 }
   -- an old step above 12, in a state that somebody made up, is taken as 12
   pub search-past : (searchFrom 13 70 ≡ record { step = 3; compared = 10 }) × (searchFrom 255 108 ≡ record { step = 12; compared = 1 })
+  -- ---- document 02, Q-6, "Offsets up to 63"
+  -- S lines with offsets of 64 and of 63, readings and ticks behind them, from power-on: their bytes, and those that they print
+  pub offsets : printedFrom startSession 1 offsetInput ≡ offsetOutput
+  -- "Offsets now run from 0 to 63 in both tables": an S line with 63 or 64 as the first or the last of the one twelve or of the other
+  pub offset-ends : (refusedWith 5 (54 ∷ 51 ∷ []) ≡ 0) × (refusedWith 16 (54 ∷ 51 ∷ []) ≡ 0) × (refusedWith 17 (54 ∷ 51 ∷ []) ≡ 0) × (refusedWith 28 (54 ∷ 51 ∷ []) ≡ 0) × (refusedWith 5 (54 ∷ 52 ∷ []) ≡ 1) × (refusedWith 16 (54 ∷ 52 ∷ []) ≡ 1) × (refusedWith 17 (54 ∷ 52 ∷ []) ≡ 1) × (refusedWith 28 (54 ∷ 52 ∷ []) ≡ 1)
+  -- and no other numbers: 15 and 16 as either hysteresis
+  pub hysteresis-ends : (refusedWith 29 (49 ∷ 53 ∷ []) ≡ 0) × (refusedWith 29 (49 ∷ 54 ∷ []) ≡ 1) × (refusedWith 30 (49 ∷ 53 ∷ []) ≡ 0) × (refusedWith 30 (49 ∷ 54 ∷ []) ≡ 1)
+  -- "an old reader refuses a line with an offset above 15 with 1": 15 and 16 at the same places
+  pub offset-before : (oldRefusedWith 5 (49 ∷ 53 ∷ []) ≡ 0) × (oldRefusedWith 16 (49 ∷ 53 ∷ []) ≡ 0) × (oldRefusedWith 17 (49 ∷ 53 ∷ []) ≡ 0) × (oldRefusedWith 28 (49 ∷ 53 ∷ []) ≡ 0) × (oldRefusedWith 5 (49 ∷ 54 ∷ []) ≡ 1) × (oldRefusedWith 16 (49 ∷ 54 ∷ []) ≡ 1) × (oldRefusedWith 17 (49 ∷ 54 ∷ []) ≡ 1) × (oldRefusedWith 28 (49 ∷ 54 ∷ []) ≡ 1)
+  -- twelve offsets of 63 from 127 degrees: thresholds that no reading reaches, counted in degrees and in half degrees
+  pub tall-unreached : (tallFrom 127 2 0 255 ≡ 0) × (tallFrom 127 2 12 255 ≡ 0) × (tallFrom 127 1 0 255 ≡ 0) × (tallFrom 127 1 12 255 ≡ 0)
+  -- exact up to the twelfth, 756 counts above the base: 1766 half degrees or 1010, of a reading that no chip has
+  pub tall-exact : (tallFrom 127 2 0 1766 ≡ 12) × (tallFrom 127 2 0 1765 ≡ 11) × (tallFrom 127 1 0 1010 ≡ 12) × (tallFrom 127 1 0 1009 ≡ 11)
+  -- from -127 degrees at -254 half degrees: offsets of 63 lead above it, offsets of 0 nowhere
+  pub lowest-base : (newStep (tall (negsuc 126) 2) 0 (reading.Taken (negsuc 253)) ≡ 0) × (newStep (tall (negsuc 126) 1) 0 (reading.Taken (negsuc 253)) ≡ 0) × (newStep (tableFrom (negsuc 126) 2 (0 ∷ replicate 11 63) 0) 0 (reading.Taken (negsuc 253)) ≡ 1) × (newStep (tableFrom (negsuc 126) 2 (replicate 12 0) 0) 0 (reading.Taken (negsuc 253)) ≡ 12)
 
 -- two facts that stand in no other crate
 fan-limit : fanLimitAt (fresh .registers) 0 ≡ 0x3FFF
@@ -195,4 +218,11 @@ all = record {
   search-most = (drive.searches .3, drive.searches .7, drive.searches .8);
   search-missing = drive.searches .9;
   search-past = (drive.searches .10, drive.searches .11);
+  offsets = offsets-printed;
+  offset-ends = settings.offsets-now;
+  hysteresis-ends = (settings.others-now .2, settings.others-now .3, settings.others-now .4, settings.others-now .5);
+  offset-before = (settings.offsets-before .0, settings.offsets-before .1, settings.offsets-before .2, settings.offsets-before .3, settings.offsets-before .4, settings.offsets-before .5, settings.offsets-before .6, settings.offsets-before .7);
+  tall-unreached = (drive.tallest .1, drive.tallest .2, drive.tallest .4, drive.tallest .5);
+  tall-exact = (drive.tallest .6, drive.tallest .7, drive.tallest .8, drive.tallest .9);
+  lowest-base = (drive.lowest .0, drive.lowest .6, drive.lowest .9, drive.lowest .10);
 }

@@ -1,8 +1,9 @@
--- Worked cases of the stages, from document 01. negsuc n is -(n + 1). Assumes nothing.
+-- Worked cases of the stages, from documents 01 and 02. negsuc n is -(n + 1). Assumes nothing.
 use mathlib.Core.Path.{_≡_, refl}
 use mathlib.Core.Bool.{true, false}
 use mathlib.Core.List.{[], _∷_}
-use lib.IntN.{pos, negsuc}
+use Prim.Native.Nat.{ℕ}
+use lib.IntN.{ℤ, pos, negsuc}
 use lib.ListN.{replicate}
 use Rattle.laws.specs.Count.{countTo}
 use Rattle.map.specs.Bits.{isSet}
@@ -34,6 +35,23 @@ above = tableFrom (pos 127) 2 (replicate 12 15) 15
 pub corners : (newStep grouped 0 (Taken (pos 59)) ≡ 0) × (newStep grouped 0 (Taken (pos 60)) ≡ 3) × (newStep grouped 3 (Taken (pos 69)) ≡ 3) × (newStep grouped 3 (Taken (pos 70)) ≡ 12) × (newStep grouped 12 (Taken (pos 66)) ≡ 12) × (newStep grouped 12 (Taken (pos 65)) ≡ 3) × (newStep above 0 (Taken (pos 255)) ≡ 0) × (newStep above 12 (Taken (pos 255)) ≡ 1) × (newStep above 12 (Taken (pos 253)) ≡ 0)
 unfolding newStep settled notAbove countTo thresholdReached isReached sumTo
 corners = (refl, refl, refl, refl, refl, refl, refl, refl, refl)
+
+-- document 02, Q-6: twelve offsets of 63, by base and unit, with a hysteresis of 15
+abbrev pub tall : ℤ → ℕ → Table
+tall base unit = tableFrom base unit (replicate 12 63) 15
+
+-- twelve are 756 counts. From 127 degrees the thresholds are 380, 506, .., 1766 half degrees, or 317, 380, .., 1010 where a count is a half
+-- degree: no reading reaches one, not with the hysteresis either, and from step 12, where missing led, 255 leads to 0. 1765 and 1009, which no
+-- chip reads, are below the last
+pub tallest : (sumTo (replicate 12 63) 12 ≡ 756) × (newStep (tall (pos 127) 2) 0 (Taken (pos 255)) ≡ 0) × (newStep (tall (pos 127) 2) 12 (Taken (pos 255)) ≡ 0) × (newStep (tall (pos 127) 2) 0 Missing ≡ 12) × (newStep (tall (pos 127) 1) 0 (Taken (pos 255)) ≡ 0) × (newStep (tall (pos 127) 1) 12 (Taken (pos 255)) ≡ 0) × (newStep (tall (pos 127) 2) 0 (Taken (pos 1766)) ≡ 12) × (newStep (tall (pos 127) 2) 0 (Taken (pos 1765)) ≡ 11) × (newStep (tall (pos 127) 1) 0 (Taken (pos 1010)) ≡ 12) × (newStep (tall (pos 127) 1) 0 (Taken (pos 1009)) ≡ 11)
+unfolding newStep settled notAbove countTo thresholdReached isReached sumTo
+tallest = (refl, refl, refl, refl, refl, refl, refl, refl, refl, refl)
+
+-- from -127 degrees they are -128, -2, 124, 250, 376, .., or -191, -128, -65, -2, 61, 124, 187, 250, 313, ..: -254 reaches none, 255 four or
+-- eight, from step 12 too. Offsets of 0 are thresholds at -254, which -254 reaches: one, or all twelve
+pub lowest : (newStep (tall (negsuc 126) 2) 0 (Taken (negsuc 253)) ≡ 0) × (newStep (tall (negsuc 126) 2) 0 (Taken (negsuc 128)) ≡ 0) × (newStep (tall (negsuc 126) 2) 0 (Taken (negsuc 127)) ≡ 1) × (newStep (tall (negsuc 126) 2) 0 (Taken (pos 249)) ≡ 3) × (newStep (tall (negsuc 126) 2) 0 (Taken (pos 255)) ≡ 4) × (newStep (tall (negsuc 126) 2) 12 (Taken (pos 255)) ≡ 4) × (newStep (tall (negsuc 126) 1) 0 (Taken (negsuc 253)) ≡ 0) × (newStep (tall (negsuc 126) 1) 0 (Taken (pos 255)) ≡ 8) × (newStep (tall (negsuc 126) 1) 12 (Taken (pos 255)) ≡ 8) × (newStep (tableFrom (negsuc 126) 2 (0 ∷ replicate 11 63) 0) 0 (Taken (negsuc 253)) ≡ 1) × (newStep (tableFrom (negsuc 126) 2 (replicate 12 0) 0) 0 (Taken (negsuc 253)) ≡ 12)
+unfolding newStep settled notAbove countTo thresholdReached isReached sumTo
+lowest = (refl, refl, refl, refl, refl, refl, refl, refl, refl, refl, refl)
 
 -- table 1 without a setup: thresholds 64, 68, .., 108 half degrees, hysteresis 4
 abbrev plain : Table

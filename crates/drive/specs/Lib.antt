@@ -11,3 +11,4 @@ pub mod SearchEnds
 pub mod SearchCount
 pub mod TickOrder
 pub mod Range
+pub mod Sums

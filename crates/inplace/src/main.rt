@@ -11,6 +11,7 @@ use parse::Parsed;
 use state::Chip;
 use state::FanKept;
 use state::KeptByte;
+use state::Setup;
 use text::BLOCK_ROOM;
 use text::ROOM;
 
@@ -221,14 +222,22 @@ fn step(chip: Chip, refusal: u8, line: &[u8]) -> Chip {
     after
 }
 
-// A setup whose duties fall is refused by 1, and the chip stays.
-fn refuse_falling(chip: Chip) {
-    let mut setup = state::default_setup();
-    setup.duties = [240, 64, 80, 96, 112, 128, 144, 160, 176, 192, 208, 224, 0];
+// A setup out of range is refused by 1, and the chip stays.
+fn refuse(chip: Chip, setup: Setup) {
     let on = lent::power_again(chip, setup);
     let after = on.chip;
     complain(on.refusal == 1);
     complain(same_chip(after, chip));
+}
+
+// One whose duties fall, and one with an offset of 64.
+fn refuse_setups(chip: Chip) {
+    let mut falling = state::default_setup();
+    falling.duties = [240, 64, 80, 96, 112, 128, 144, 160, 176, 192, 208, 224, 0];
+    refuse(chip, falling);
+    let mut wide = state::default_setup();
+    wide.offsets34 = [63, 63, 63, 63, 63, 63, 63, 63, 63, 63, 63, 64];
+    refuse(chip, wide);
 }
 
 fn write_first(out: &[u8], n: usize) {
@@ -331,7 +340,7 @@ fn main() {
     let run = give_all(&input[..n]);
     let held = run.held;
     let chip = held.chip;
-    refuse_falling(chip);
+    refuse_setups(chip);
     let mut all = [0u8; REGISTERS];
     lent::dump(chip, &mut all);
     write_dump(&all);

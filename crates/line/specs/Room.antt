@@ -1,5 +1,5 @@
 -- Refusal 5 is given exactly if the lent output has less than the line's room: `Comes` has how much that is. Assumes nothing.
-use mathlib.Core.Path.{_≡_, refl, sym, ap, _∙_}
+use mathlib.Core.Path.{_≡_, sym, ap, _∙_}
 use mathlib.Core.Bool.{Bool, true, false}
 use mathlib.Core.List.{List}
 use mathlib.Core.Logic.{by-cases}
@@ -9,36 +9,36 @@ use native.Mathlib.Omega.{arith}
 use borrow.Author.Tests.{lt-ltb}
 use lib.Dec.{ltb, eqb}
 use lib.ListN.{length}
-use Rattle.laws.specs.Pick.{pick, both}
 use Rattle.laws.specs.Pointwise.{pick-each}
 use Rattle.laws.specs.Every.{every}
 use Rattle.text.specs.Number.{isSpelt}
+use Rattle.state.specs.declared.Setup.{Setup}
 use Rattle.event.specs.Event.{eventIn}
 use Rattle.parse.specs.declared.Parsed.{Parsed}
 use Rattle.parse.specs.declared.Parsed.the-variants.{Wrong, Fine}
 use Rattle.parse.specs.Parse.{letterOf, eventOf, dataOf}
 use Rattle.parse.specs.Data.{data-short}
-use Rattle.settings.specs.declared.Settings.{Settings}
 use Rattle.settings.specs.Places.{NUMBERS}
-use Rattle.settings.specs.Settings.{settingAt, rangeOf, isWithin, risesBy, isSetup, refusedSettings, settingsOf}
+use Rattle.settings.specs.Settings.{settingAt, rangeOf, isWithin, risesBy, refusedSettings, answered, isSetup, settingsOf}
 use Rattle.line.specs.declared.Session.{Session}
 use Rattle.line.specs.declared.Asked.{Asked}
 use Rattle.line.specs.Line.{Judged, roomFor, askedSettings, askedOther, askedBy, askedText, askedLine, refusedLine, begunLine, setupLine, eventLine, judgedBy, judgedLine, judgedIn, takenBy, takenLine}
 use Rattle.line.specs.Clamped.{asked-is}
 use Rattle.line.specs.Comes.{judged-with-room}
 
--- settings that are spelled right or not, and in range or not, are not refused by 5
-answer-other : (fits spelt within : Bool) (x : Settings) → x .refusal ≡ 0 → pick fits (pick spelt (pick within x (refusedSettings 1)) (refusedSettings 4)) (refusedSettings 4) .refusal ≡ 5 → ⊥
+-- settings are not refused by 5, spelled right or not, in range or not
+answered-other : (fits spelt within up : Bool) (x : Setup) → answered fits spelt within up x .refusal ≡ 5 → ⊥
 unfolding refusedSettings
-answer-other true true true x z e = omega arith
-answer-other true true false x z e = omega arith
-answer-other true false within x z e = omega arith
-answer-other false spelt within x z e = omega arith
+answered-other true true true true x e = omega arith
+answered-other true true true false x e = omega arith
+answered-other true true false up x e = omega arith
+answered-other true false within up x e = omega arith
+answered-other false spelt within up x e = omega arith
 
 settings-other : (line : List ℕ) → settingsOf line .refusal ≡ 5 → ⊥
 unfolding settingsOf
 settings-other line =
-    answer-other (isSetup line) (every NUMBERS (λ k. isSpelt (settingAt line k))) (both (every NUMBERS (λ k. isWithin (rangeOf k) (settingAt line k))) (every 12 (risesBy (settingAt line)))) _ refl
+    answered-other (isSetup line) (every NUMBERS (λ k. isSpelt (settingAt line k))) (every NUMBERS (λ k. isWithin (rangeOf k) (settingAt line k))) (every 12 (risesBy (settingAt line))) _
 
 module _ (s : Session) (line : List ℕ) where
   -- what is asked for is not refused by 5

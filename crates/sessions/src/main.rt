@@ -1,10 +1,14 @@
 // Runs many sessions of lines, one after the other: a line that begins with # is the title of the next, which starts from power-on.
+use libc::STDERR_FILENO;
 use libc::STDIN_FILENO;
 use libc::STDOUT_FILENO;
 use line::Session;
 use text::BLOCK_ROOM;
 
-const INPUT: usize = 32768;
+const INPUT_MOST: usize = 65536;
+
+// One byte more tells that there is more.
+const INPUT: usize = INPUT_MOST + 1;
 
 // A session, and the number of its next line.
 struct Run {
@@ -78,9 +82,16 @@ fn take_all(start: Run, s: &[u8]) {
 fn main() {
     let mut input = [0u8; INPUT];
     let n = io::read_full(STDIN_FILENO, &mut input);
-    let run = Run {
-        session: line::start(),
-        number: 1,
-    };
-    take_all(run, &input[..n]);
+    if n <= INPUT_MOST {
+        let run = Run {
+            session: line::start(),
+            number: 1,
+        };
+        take_all(run, &input[..n]);
+    } else {
+        io::write_all(
+            STDERR_FILENO,
+            b"sessions: more than 65536 bytes on standard input\n",
+        );
+    }
 }

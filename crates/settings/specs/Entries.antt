@@ -20,7 +20,7 @@ use Rattle.state.specs.Most.{DEGREES-MOST, BYTE-MOST}
 use Rattle.settings.specs.declared.Entry.{Entry}
 use Rattle.settings.specs.declared.Settings.{Settings}
 use Rattle.settings.specs.Places.{LEVEL, BASES, OFFSETS12, OFFSETS34, HYSTERESES, DUTIES, BOOSTS, BOOST-HYSTERESIS, BINDINGS, OVERRIDES, START-DUTIES, START-COUNTS, NUMBERS}
-use Rattle.settings.specs.Settings.{settingAt, rangeOf, isWithin, plainOf, signedOf, boostOf, overrideOf, setupBy, risesBy, refusedSettings, isSetup, settingsOf}
+use Rattle.settings.specs.Settings.{settingAt, rangeOf, isWithin, plainOf, signedOf, boostOf, overrideOf, setupBy, risesBy, refusedSettings, settingsAs, isSetup, settingsOf}
 use Rattle.settings.specs.Ranges.{sizeOf, plain-most, most-small, below-small, Ranged, in-range}
 
 -- the 59 numbers of a line, each up to 65535
@@ -48,11 +48,8 @@ heldDegrees (Minus v) = negℤ (pos (v % 128))
 -- what the code makes of the numbers of an S line
 unfoldable pub settingsFrom : List Entry → Settings
 settingsFrom es =
-    pick (every NUMBERS (λ k. isSpelt (entryIn es k)))
-    (pick (both (every NUMBERS (λ k. isWithin (rangeOf k) (entryIn es k))) (every 12 (risesBy (entryIn es))))
-    (record { refusal = 0; setup = setupBy heldByte heldDegrees (entryIn es) })
-    (refusedSettings 1))
-    (refusedSettings 4)
+    settingsAs (every NUMBERS (λ k. isSpelt (entryIn es k))) (every NUMBERS (λ k. isWithin (rangeOf k) (entryIn es k)))
+    (every 12 (risesBy (entryIn es))) (setupBy heldByte heldDegrees (entryIn es))
 
 -- ---- one number
 

@@ -1,4 +1,4 @@
--- The setup of an S line is one of document 01's: each number in its range, and duties that never fall. Assumes nothing.
+-- The setup of an S line is one that is taken: each number in its range, and duties that never fall. Assumes nothing.
 use mathlib.Core.Path.{_≡_, refl}
 use mathlib.Core.Bool.{Bool, true, false}
 use mathlib.Core.List.{List}
@@ -6,7 +6,6 @@ use Prim.Native.Nat.{ℕ, zero, suc, _+_, _≤_, _<_}
 use native.Mathlib.Omega.{arith}
 use lib.Dec.{leb}
 use borrow.Author.Tests.{le-leb}
-use Rattle.laws.specs.Pick.{pick, both}
 use Rattle.laws.specs.Both.{both-true}
 use Rattle.laws.specs.Every.{every, every-at, every-of}
 use Rattle.laws.specs.AllPass.{allPass}
@@ -17,9 +16,8 @@ use Rattle.text.specs.Number.{isSpelt}
 use Rattle.state.specs.declared.Setup.{Setup}
 use Rattle.state.specs.Most.{DEGREES-MOST, OFFSET-MOST, HYSTERESIS-MOST, DUTY-MOST}
 use Rattle.state.specs.Valid.{degreesIn, boostIn, overrideIn, basesIn, numbersIn, neverFall, boostsIn, overridesIn, tablesIn, fansIn, setupIn, Valid, default-valid}
-use Rattle.settings.specs.declared.Settings.{Settings}
 use Rattle.settings.specs.Places.{LEVEL, OFFSETS12, OFFSETS34, HYSTERESES, DUTIES, BOOST-HYSTERESIS, OVERRIDES, START-DUTIES, NUMBERS}
-use Rattle.settings.specs.Settings.{settingAt, rangeOf, isWithin, plainOf, signedOf, noneOr, boostOf, overrideOf, setupBy, risesBy, refusedSettings, isSetup, settingsOf}
+use Rattle.settings.specs.Settings.{settingAt, rangeOf, isWithin, plainOf, signedOf, noneOr, boostOf, overrideOf, setupBy, risesBy, refusedSettings, answered, isSetup, settingsOf}
 use Rattle.settings.specs.Ranges.{sizeOf, plain-most, Ranged, in-range}
 
 -- ---- one number
@@ -61,7 +59,7 @@ unfolding allPass
 tab-pass p d f count h = rw (tab-long f count) (every-of _ count (λ k l. rw (tab-at f count k d l) (h k l)))
 
 module _ (n : ℕ → Number) (w : every NUMBERS (λ k. isWithin (rangeOf k) (n k)) ≡ true) (up : every 12 (risesBy n) ≡ true) where
-  -- the numbers are in document 01's ranges
+  -- the numbers are in their ranges
   r : Ranged n
   r = in-range n w
 
@@ -95,13 +93,8 @@ module _ (n : ℕ → Number) (w : every NUMBERS (λ k. isWithin (rangeOf k) (n 
       (both-true (tab-pass _ _ _ 2 (λ f l. override-in _ (r .all (OVERRIDES + f) (omega arith))))
       (plain-each START-DUTIES 2 DUTY-MOST (λ f l. r .all (START-DUTIES + f) (omega arith)))))))))
 
--- the answer of a line with the numbers of a setup or not, spelled right or not, in range or not, with duties that rise or fall
-abbrev answer : Bool → Bool → Bool → Bool → Setup → Settings
-answer fits spelt within up x =
-    pick fits (pick spelt (pick (both within up) (record { refusal = 0; setup = x }) (refusedSettings 1)) (refusedSettings 4)) (refusedSettings 4)
-
--- one that passes all has its own setup, any other the one without a setup
-answer-valid : (fits spelt within up : Bool) (x : Setup) → (within ≡ true → up ≡ true → Valid x) → Valid (answer fits spelt within up x .setup)
+-- a line that passes all has its own setup, any other the one without a setup
+answer-valid : (fits spelt within up : Bool) (x : Setup) → (within ≡ true → up ≡ true → Valid x) → Valid (answered fits spelt within up x .setup)
 unfolding refusedSettings
 answer-valid true true true true x v = v refl refl
 answer-valid true true true false x v = default-valid
@@ -109,7 +102,7 @@ answer-valid true true false up x v = default-valid
 answer-valid true false within up x v = default-valid
 answer-valid false spelt within up x v = default-valid
 
--- the setup of a line is one that document 01 takes, beside a refusal too
+-- the setup of a line is one that is taken, beside a refusal too
 pub settings-valid : (s : List ℕ) → Valid (settingsOf s .setup)
 unfolding settingsOf
 settings-valid s = answer-valid (isSetup s) (every NUMBERS (λ k. isSpelt (settingAt s k))) _ _ _ (setup-valid (settingAt s))

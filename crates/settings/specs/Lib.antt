@@ -3,4 +3,5 @@ pub mod Settings
 pub mod Ranges
 pub mod Entries
 pub mod InRange
+pub mod Before
 pub mod Cases

@@ -4,13 +4,13 @@ use mathlib.Core.Bool.{true}
 use Prim.Native.Nat.{ℕ, _+_, _≤_, _<_}
 use native.Mathlib.Omega.{arith}
 use lib.Dec.{leb}
-use borrow.Author.Tests.{leb-true}
+use borrow.Author.Tests.{leb-true, lt-ltb, le-ltb}
 use Rattle.laws.specs.Every.{every, every-at}
 use Rattle.text.specs.declared.Number.{Number}
 use Rattle.text.specs.declared.Number.the-variants.{Wrong, Dash, Plus, Minus}
 use Rattle.state.specs.Most.{LEVEL-MOST, DEGREES-MOST, OFFSET-MOST, HYSTERESIS-MOST, DUTY-MOST, BYTE-MOST}
 use Rattle.settings.specs.Places.{LEVEL, BASES, OFFSETS12, OFFSETS34, HYSTERESES, BOOSTS, BOOST-HYSTERESIS, BINDINGS, START-COUNTS, NUMBERS}
-use Rattle.settings.specs.Settings.{rangeOf, isWithin, plainOf}
+use Rattle.settings.specs.Settings.{upTo, rangeOf, isWithin, plainOf}
 
 -- a number without its sign; 0 where it is none
 unfoldable pub sizeOf : Number → ℕ
@@ -38,6 +38,11 @@ unfolding every rangeOf
 below-small k l =
     leb-true (rangeOf k .below) (rangeOf k .most) (every-at (λ k. leb (rangeOf k .below) (rangeOf k .most)) NUMBERS k refl l)
 
+-- 02, Q-6: "Offsets now run from 0 to 63 in both tables."
+pub offset-range : (k : ℕ) → OFFSETS12 ≤ k → k < HYSTERESES → rangeOf k ≡ upTo OFFSET-MOST
+unfolding rangeOf
+offset-range k p q = rw (le-ltb k BASES (omega arith), le-ltb k OFFSETS12 p, lt-ltb k HYSTERESES q)
+
 -- a number in its range is no larger than the largest, whatever its sign
 size-most : (k : ℕ) (n : Number) → k < NUMBERS → isWithin (rangeOf k) n ≡ true → sizeOf n ≤ rangeOf k .most
 unfolding isWithin sizeOf
@@ -50,7 +55,7 @@ size-most k (Minus v) l e = omega (arith, leb-true v (rangeOf k .below) e, below
 abbrev GroupMost : ℕ → ℕ → ℕ → Type 0
 GroupMost first count most = every count (λ k. leb (rangeOf (first + k) .most) most) ≡ true
 
--- document 01's ranges, without signs
+-- the ranges, without signs
 pub record Ranged (n : ℕ → Number) : Type 0 where
   pub all : (k : ℕ) → k < NUMBERS → sizeOf (n k) ≤ DUTY-MOST
   pub level : sizeOf (n LEVEL) ≤ LEVEL-MOST

@@ -1,4 +1,5 @@
--- Document 01, "Setup": the 59 numbers of an S line. Numbers are exact here, however long they are. Assumes nothing.
+-- Document 01, "Setup", as document 02, Q-6, amends it: the 59 numbers of an S line. Numbers are exact here, however long they are. Assumes
+-- nothing.
 use Prim.Native.Nat.{ℕ, suc, _+_}
 use mathlib.Core.Bool.{Bool, true, false}
 use mathlib.Core.List.{List}
@@ -41,9 +42,9 @@ degrees = record { most = DEGREES-MOST; below = DEGREES-MOST; none = false }
 abbrev pub orNone : Range → Range
 orNone r = record { most = r .most; below = r .below; none = true }
 
--- "pin level; 4 bases, -127 to 127 degrees; 12 offsets for tables 1 and 2, then 12 for 3 and 4, 0 to 15; 2 hystereses, 0 to 15; 13 duties, 0
--- to 256; 6 boosts, -127 to 127 or none; boost hysteresis 0 to 15 degrees; 2 bindings, 0 to 255; 2 overrides, 0 to 256 or none; 2 start
--- duties, 0 to 256; 2 start counts, 0 to 255": what number k may be
+-- "pin level; 4 bases, -127 to 127 degrees; 12 offsets for tables 1 and 2, then 12 for 3 and 4; 2 hystereses, 0 to 15; 13 duties, 0 to 256; 6
+-- boosts, -127 to 127 or none; boost hysteresis 0 to 15 degrees; 2 bindings, 0 to 255; 2 overrides, 0 to 256 or none; 2 start duties, 0 to
+-- 256; 2 start counts, 0 to 255"; 02: "Offsets now run from 0 to 63 in both tables." What number k may be
 unfoldable pub rangeOf : ℕ → Range
 rangeOf k =
     pick (ltb k BASES) (upTo LEVEL-MOST)
@@ -122,18 +123,26 @@ risesBy n k = leb (plainOf (n (DUTIES + k))) (plainOf (n (DUTIES + k + 1)))
 unfoldable pub refusedSettings : ℕ → Settings
 refusedSettings refusal = record { refusal = refusal; setup = defaultSetup }
 
+-- the setup that numbers make, if they are spelled right, in range, and with duties that never fall. Refusal 4: "spelling wrong"; refusal 1:
+-- "a setup number out of range, or duties that fall"
+abbrev pub settingsAs : Bool → Bool → Bool → Setup → Settings
+settingsAs spelt within up x =
+    pick spelt (pick (both within up) (record { refusal = 0; setup = x }) (refusedSettings 1)) (refusedSettings 4)
+
+-- refusal 4: "unknown letter, field count .. wrong"
+abbrev pub answered : Bool → Bool → Bool → Bool → Setup → Settings
+answered fits spelt within up x = pick fits (settingsAs spelt within up x) (refusedSettings 4)
+
 -- "Letter first", which is S, 83, and "59 numbers"
 unfoldable pub isSetup : List ℕ → Bool
 isSetup s =
     both (eqb (length (firstField s)) 1) (both (eqb (getD s 0 0) 83) (eqb (length (fieldsOf s)) (suc NUMBERS)))
 
--- refusal 4: "unknown letter, field count or spelling wrong"; refusal 1: "a setup number out of range, or duties that fall"
+-- what number k may be is left open
+abbrev pub settingsBy : (ℕ → Range) → List ℕ → Settings
+settingsBy range s =
+    answered (isSetup s) (every NUMBERS (λ k. isSpelt (settingAt s k))) (every NUMBERS (λ k. isWithin (range k) (settingAt s k)))
+    (every 12 (risesBy (settingAt s))) (setupBy plainOf signedOf (settingAt s))
+
 unfoldable pub settingsOf : List ℕ → Settings
-settingsOf s =
-    pick (isSetup s)
-    (pick (every NUMBERS (λ k. isSpelt (settingAt s k)))
-    (pick (both (every NUMBERS (λ k. isWithin (rangeOf k) (settingAt s k))) (every 12 (risesBy (settingAt s))))
-    (record { refusal = 0; setup = setupBy plainOf signedOf (settingAt s) })
-    (refusedSettings 1))
-    (refusedSettings 4))
-    (refusedSettings 4)
+settingsOf s = settingsBy rangeOf s

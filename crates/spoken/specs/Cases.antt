@@ -2,7 +2,7 @@
 -- "K", beside the same lines but "T\t1\t-". Assumes nothing.
 use mathlib.Core.Path.{_≡_, refl}
 use mathlib.Core.List.{List, [], _∷_}
-use Prim.Native.Nat.{ℕ, zero, suc}
+use Prim.Native.Nat.{ℕ}
 use lib.IntN.{pos}
 use Rattle.laws.specs.Every.{every}
 use Rattle.laws.specs.Tab.{tab}
@@ -14,6 +14,7 @@ use Rattle.text.specs.Number.{isDigit, allDigits, valueOf, runOf, plusOf, minus
 use Rattle.text.specs.Hex.{nibbleOf, hexByteOf, isHex, hexValue, hexesSpelt, hexesOf}
 use Rattle.parse.specs.Parse.{letterOf, numberAt, indexOf, spelledReading, pairOf, temperatureLine, twoBy, twoOf, threeBy, threeOf, readBlockBy, readBlockLine, isData, writeBlockBy, writeBlockLine, eventBy, dataBy, dataOf}
 use Rattle.settings.specs.Settings.{settingAt, rangeOf, isWithin, plainOf, risesBy, isSetup, settingsOf}
+use Rattle.settings.specs.Cases.{zeros}
 use Rattle.line.specs.declared.Session.{Session}
 use Rattle.line.specs.Line.{startSession, askedEvent, askedSettings, askedOther, askedBy, askedText, begunLine, setupLine, eventLine, judgedBy, judgedLine}
 use Rattle.theorems.specs.Alike.{AllNoHigher}
@@ -22,11 +23,6 @@ use Rattle.spoken.specs.HotterLines.{demand-3-lines}
 use Rattle.spoken.specs.TickLine.{K, tick-line}
 
 -- ---- the lines
-
--- n fields of the number 0
-abbrev zeros : ℕ → List ℕ
-zeros zero = []
-zeros (suc n) = 9 ∷ 48 ∷ zeros n
 
 abbrev pub setup : List ℕ
 setup = 83 ∷ zeros 59

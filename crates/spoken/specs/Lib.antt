@@ -11,3 +11,4 @@ pub mod WrongLines
 pub mod SaidLines
 pub mod WholeLines
 pub mod HeldLines
+pub mod OldLines

@@ -1,4 +1,4 @@
--- A line that is taken says an event that is not refused, or a setup that document 01 takes. Assumes nothing.
+-- A line that is taken says an event that is not refused, or a setup that is in range. Assumes nothing.
 use mathlib.Core.Path.{_≡_, refl}
 use mathlib.Core.Bool.{Bool, true, false}
 use mathlib.Core.List.{List}

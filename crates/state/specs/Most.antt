@@ -9,9 +9,9 @@ LEVEL-MOST = 2
 abbrev pub DEGREES-MOST : ℕ
 DEGREES-MOST = 127
 
--- "12 offsets for tables 1 and 2, then 12 for 3 and 4, 0 to 15"
+-- "12 offsets for tables 1 and 2, then 12 for 3 and 4"; 02, Q-6: "Offsets now run from 0 to 63 in both tables."
 abbrev pub OFFSET-MOST : ℕ
-OFFSET-MOST = 15
+OFFSET-MOST = 63
 
 -- "2 hystereses, 0 to 15", "boost hysteresis 0 to 15 degrees"
 abbrev pub HYSTERESIS-MOST : ℕ

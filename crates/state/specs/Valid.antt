@@ -1,5 +1,5 @@
--- Document 01, "Setup": the setups that are taken, each of the 59 numbers in its range and duties that never fall. Bindings and start counts
--- are bytes, and every byte is in range. Assumes nothing.
+-- Document 01, "Setup", as document 02, Q-6, amends it: the setups that are taken, each of the 59 numbers in its range and duties that never
+-- fall. Bindings and start counts are bytes, and every byte is in range. Assumes nothing.
 use mathlib.Core.Path.{_≡_, refl}
 use mathlib.Core.Bool.{Bool, true}
 use mathlib.Core.List.{List}
@@ -118,9 +118,17 @@ unfolding numbersIn
 number-le most xs e k = leb-true (getD xs k 0) most (pass-at (λ n. leb n most) 0 xs e (le-leb 0 most (omega arith)) k)
 
 module _ (s : Setup) (v : Valid s) where
-  fans-in : fansIn s ≡ true
+  tables-and-fans-in : both (tablesIn s) (fansIn s) ≡ true
   unfolding setupIn
-  fans-in = both-right (tablesIn s) _ (both-right (boostsIn (s .boosts)) _ (both-right (leb (s .«boost_hysteresis») HYSTERESIS-MOST) _ (both-right (leb (s .level) LEVEL-MOST) _ v)))
+  tables-and-fans-in = both-right (boostsIn (s .boosts)) _ (both-right (leb (s .«boost_hysteresis») HYSTERESIS-MOST) _ (both-right (leb (s .level) LEVEL-MOST) _ v))
+
+  -- what follows the bases
+  offsets-in : both (numbersIn OFFSET-MOST (s .offsets12)) (both (numbersIn OFFSET-MOST (s .offsets34)) (numbersIn HYSTERESIS-MOST (s .hystereses))) ≡ true
+  unfolding tablesIn
+  offsets-in = both-right (basesIn (s .bases)) _ (both-left (tablesIn s) _ tables-and-fans-in)
+
+  fans-in : fansIn s ≡ true
+  fans-in = both-right (tablesIn s) _ tables-and-fans-in
 
   duties-in : numbersIn DUTY-MOST (s .duties) ≡ true
   unfolding fansIn
@@ -132,6 +140,13 @@ module _ (s : Setup) (v : Valid s) where
 
   starts-in : both (overridesIn (s .overrides)) (numbersIn DUTY-MOST (s .«start_duties»)) ≡ true
   starts-in = both-right (neverFall (s .duties)) _ never-fall
+
+  pub valid-offsets12 : (k : ℕ) → getD (s .offsets12) k 0 ≤ OFFSET-MOST
+  valid-offsets12 k = number-le OFFSET-MOST (s .offsets12) (both-left (numbersIn OFFSET-MOST (s .offsets12)) _ offsets-in) k
+
+  pub valid-offsets34 : (k : ℕ) → getD (s .offsets34) k 0 ≤ OFFSET-MOST
+  valid-offsets34 k =
+      number-le OFFSET-MOST (s .offsets34) (both-left (numbersIn OFFSET-MOST (s .offsets34)) _ (both-right (numbersIn OFFSET-MOST (s .offsets12)) _ offsets-in)) k
 
   pub valid-duties : Rising (λ k. getD (s .duties) k 0)
   unfolding neverFall

@@ -4,13 +4,14 @@ use Prim.Native.Nat.{ℕ, _≤_, _<_}
 use native.Mathlib.Omega.{arith}
 use borrow.Author.Needs.{needs}
 use borrow.Author.Tests.{lt-ltb, le-ltb}
-use Rattle.state.specs.Most.{LEVEL-MOST, OFFSET-MOST, HYSTERESIS-MOST, DUTY-MOST, BYTE-MOST}
+use Rattle.state.specs.Most.{LEVEL-MOST, HYSTERESIS-MOST, DUTY-MOST, BYTE-MOST}
 use Rattle.settings.specs.Places.{BASES, OFFSETS12, HYSTERESES, DUTIES, BOOSTS, BOOST-HYSTERESIS, BINDINGS, OVERRIDES, START-DUTIES, START-COUNTS}
 use Rattle.settings.specs.Settings.{upTo, degrees, orNone, rangeOf}
+use Rattle.settings.specs.Ranges.{offset-range}
 use Rattle.settings.proofs.range_of.Statement.{statement}
 use Rattle.settings.proofs.range_of.Tie as tie
 
--- ---- one law for each rung: what the numbers of a group may be
+-- ---- one law for each rung: what the numbers of a group may be; that of the offsets is `offset-range`
 
 module _ (k : ℕ) where
   level-rung : k < BASES → rangeOf k ≡ upTo LEVEL-MOST
@@ -20,10 +21,6 @@ module _ (k : ℕ) where
   bases-rung : BASES ≤ k → k < OFFSETS12 → rangeOf k ≡ degrees
   unfolding rangeOf
   bases-rung p q = rw (le-ltb k BASES (omega arith), lt-ltb k OFFSETS12 q)
-
-  offsets-rung : OFFSETS12 ≤ k → k < HYSTERESES → rangeOf k ≡ upTo OFFSET-MOST
-  unfolding rangeOf
-  offsets-rung p q = rw (le-ltb k BASES (omega arith), le-ltb k OFFSETS12 (omega arith), lt-ltb k HYSTERESES q)
 
   hystereses-rung : HYSTERESES ≤ k → k < DUTIES → rangeOf k ≡ upTo HYSTERESIS-MOST
   unfolding rangeOf
@@ -108,7 +105,7 @@ returns-3 : tie.Need-returns-3
 returns-3 c = c .degrees .ensures ∙ sym (bases-rung _ (omega arith) (omega arith))
 
 returns-4 : tie.Need-returns-4
-returns-4 c = c .up-to3 .ensures ∙ sym (offsets-rung _ (omega arith) (omega arith))
+returns-4 c = c .up-to3 .ensures ∙ sym (offset-range _ (omega arith) (omega arith))
 
 returns-5 : tie.Need-returns-5
 returns-5 c = c .up-to4 .ensures ∙ sym (hystereses-rung _ (omega arith) (omega arith))
