@@ -1,5 +1,5 @@
-// The jobs of the programs bench and searches as a plain C program, written from documents 01 and 02 and the data
-// sheet's register list for comparison: same input, same output. It shares nothing with the Rattle sources.
+// The jobs of the programs bench and searches as a plain C program, written from documents 01 and 02 and the
+// data sheet's register list for comparison: same input, same output. It shares nothing with the Rattle sources.
 // usage: bench < session | bench searches < searches: the second runs the step search of a table on cases, and counts the thresholds compared
 #include <stdint.h>
 #include <stdio.h>
@@ -256,6 +256,7 @@ static void reset_pin(struct chip *c)
 
 static int hotter(int a, int b) { return a == MISSING || b == MISSING ? MISSING : a > b ? a : b; }
 
+// an int holds a threshold: none of a setup is above 1,766 half degrees, a base of 127 degrees and twelve offsets of 63
 static int reached(int base, int unit, const int *offset, int h)
 {
     int n = 0, threshold = 2 * base;
@@ -384,7 +385,7 @@ static int parse_setup(const unsigned char *at, struct setup *s)
 #define TAKE(field, low, high, none) (bad |= !(within(n[k], low, high) || (none && n[k] == DASH)), field = n[k++])
     TAKE(s->level, 0, 2, 0);
     for (int i = 0; i < 4; i++) TAKE(s->base[i], -127, 127, 0);
-    for (int i = 0; i < 24; i++) TAKE(s->offset[i / 12][i % 12], 0, 15, 0);
+    for (int i = 0; i < 24; i++) TAKE(s->offset[i / 12][i % 12], 0, 63, 0); // "Offsets now run from 0 to 63 in both tables."
     for (int i = 0; i < 2; i++) TAKE(s->hysteresis[i], 0, 15, 0);
     for (int i = 0; i < 13; i++) TAKE(s->duty[i], 0, 256, 0);
     for (int i = 0; i < 6; i++) TAKE(s->boost[i], -127, 127, 1);

@@ -1,8 +1,9 @@
 // Writes a session for the bench, or an input for the searches.
 // usage: generate board | generate session SEED | generate base SEED | generate searches SEED
 // board: a board's forty minutes, 48,000 ticks, each after five temperatures, sixteen voltages, four fan counts and some bus reads, its
-// limits written first. session SEED: a session, valid or damaged, most often a short one, that the seed decides: scenes of blocks, fan counts,
-// voltages about their limits and temperatures about the tables' thresholds. base SEED: one with the letters of document 01 alone.
+// limits written first. session SEED: a session, valid or damaged, most often a short one, that the seed decides: setups with offsets up to
+// 63, right and wrong ones, and scenes of blocks, fan counts, voltages about their limits and temperatures about the tables' thresholds.
+// base SEED: one with the letters of document 01 alone.
 // searches SEED: tables, and step searches about their thresholds, valid or damaged, under 32,000 bytes, that the seed decides.
 // The board and the base sessions never change, so that counts made on them can be held against each other.
 #include <stdint.h>
@@ -24,6 +25,8 @@ static int below(int n) { return next() % n; }
 static int between(int low, int high) { return low + below(high - low + 1); }
 
 static int one_in(int n) { return below(n) == 0; }
+
+static int clamp(int n, int low, int high) { return n < low ? low : n > high ? high : n; }
 
 // ---- lines
 
@@ -85,6 +88,7 @@ static int some_address(void)
     return near[below(7)];
 }
 
+// its offset of 16 was out of range before Q-6, and stays for the sake of the base sessions
 static void setup_line(void)
 {
     int duty = 0, override;
@@ -222,6 +226,15 @@ static void replace(int at, int cut, const char *text)
     len += n - cut;
 }
 
+// the first has the number 0
+static void replace_field(int nth, const char *text)
+{
+    int at = 0, n = 0;
+    for (; nth > 0; nth--) at += strcspn(line + at, "\t") + 1;
+    while (at + n < len && line[at + n] != '\t') n++;
+    replace(at, n, text);
+}
+
 static void lengthen(int n)
 {
     while (len + 3 <= n) byte(0);
@@ -332,7 +345,7 @@ static int high_limit(int channel) { return held[0x91 + 2 * channel]; }
 
 static int vh(void) { return held[0xBC] & 7; }
 
-static int within_byte(int n) { return n < 0 ? 0 : n > 255 ? 255 : n; }
+static int within_byte(int n) { return clamp(n, 0, 255); }
 
 static int corner_reading(int channel)
 {
@@ -433,50 +446,114 @@ static void clear_bit(int channel, int group)
 // ---- tables
 
 // where the numbers stand in a setup, and how many they are
-enum { BASES = 1, OFFSETS = 5, HYSTERESES = 29, DUTIES = 31, BOOSTS = 44, BINDINGS = 51, SETUP = 59 };
+enum { BASES = 1, OFFSETS = 5, HYSTERESES = 29, DUTIES = 31, BOOSTS = 44, BOOST_HYSTERESIS = 50, BINDINGS = 51, SETUP = 59 };
 
 enum { ALL_0, ALL_15, ONE_15, MOST_0, MANY_0, MIXED };
 
-static void offset_row(void)
+// of offsets up to 15, which are all that document 01 has
+static void narrow_row(int *row)
 {
     int kind = below(12), one = below(12), any;
     for (int i = 0; i < 12; i++) {
         any = between(1, 15);
         switch (kind) {
-        case ALL_0: number(0); break;
-        case ALL_15: number(15); break;
-        case ONE_15: number(i == one ? 15 : 0); break;
-        case MOST_0: number(one_in(4) ? any : 0); break;
-        case MANY_0: number(one_in(2) ? any : 0); break;
-        case MIXED: case MIXED + 1: number(below(16)); break;
-        default: number(below(5));
+        case ALL_0: row[i] = 0; break;
+        case ALL_15: row[i] = 15; break;
+        case ONE_15: row[i] = i == one ? 15 : 0; break;
+        case MOST_0: row[i] = one_in(4) ? any : 0; break;
+        case MANY_0: row[i] = one_in(2) ? any : 0; break;
+        case MIXED: case MIXED + 1: row[i] = below(16); break;
+        default: row[i] = below(5);
         }
     }
 }
+
+enum { ALL_63, ALL_ALIKE = 2, ONE_63, ONE_AMONG_0, ENDS, ENDS_AND_0, WIDE_OR_0, TO_63, TO_31 };
+
+static int end_offset(void)
+{
+    static const int ends[] = {15, 16, 62, 63};
+    return ends[below(4)];
+}
+
+// of offsets up to 63; a row of no named kind has a few wide ones among narrow ones
+static void wide_row(int *row)
+{
+    int kind = below(13), one = one_in(3) ? 11 * below(2) : below(12), alike = one_in(2) ? end_offset() : between(16, 63);
+    int end, wide;
+    for (int i = 0; i < 12; i++) {
+        end = end_offset();
+        wide = between(16, 63);
+        switch (kind) {
+        case ALL_63: case ALL_63 + 1: row[i] = 63; break;
+        case ALL_ALIKE: row[i] = alike; break;
+        case ONE_63: row[i] = i == one ? 63 : 0; break;
+        case ONE_AMONG_0: row[i] = i == one ? alike : 0; break;
+        case ENDS: row[i] = end; break;
+        case ENDS_AND_0: row[i] = one_in(2) ? end : 0; break;
+        case WIDE_OR_0: row[i] = one_in(3) ? wide : 0; break;
+        case TO_63: row[i] = below(64); break;
+        case TO_31: row[i] = below(32); break;
+        default: row[i] = i == one || one_in(6) ? (one_in(2) ? end : wide) : below(one_in(2) ? 5 : 16);
+        }
+    }
+}
+
+static int end_base(void) { return one_in(2) ? -127 : 127; }
 
 static int some_base(void)
 {
     switch (below(6)) {
     case 0: return between(-127, 127);
-    case 1: return one_in(2) ? between(-127, -112) : between(112, 127);
+    case 1: return one_in(3) ? end_base() : one_in(2) ? between(-127, -112) : between(112, 127);
     }
     return between(-70, 80);
 }
 
-static int some_hysteresis(void)
+// the sum of the first k offsets in degrees, a count being a degree or half of one
+static int degrees(const int *row, int k, int half)
 {
-    static const int ends[] = {0, 1, 15};
-    return one_in(3) ? ends[below(3)] : below(16);
+    int sum = 0;
+    for (int i = 0; i < k; i++) sum += row[i];
+    return half ? sum / 2 : sum;
 }
 
-// a setup by whose duties each step of a table is seen
+// most often so low that readings reach all thresholds of the row, or as many as can be; now and then one of them is a little above the
+// hottest reading
+static int low_base(const int *row)
+{
+    int half = below(2), k = between(1, 12), room = 254 - degrees(row, 12, half);
+    switch (below(11)) {
+    case 0: return end_base();
+    case 1: case 2: case 3: return -127;
+    case 4: return some_base();
+    case 5: case 6:
+        while (k > 1 && degrees(row, k, half) > 255) k--;
+        return clamp(128 + below(8) - degrees(row, k, half), -127, 127);
+    }
+    return -127 + below(room > 3 ? room : 3);
+}
+
+static int some_hysteresis(void)
+{
+    static const int ends[] = {0, 1, 15, 15};
+    return one_in(2) ? ends[below(4)] : below(16);
+}
+
+// a setup by whose duties each step of a table is seen; one in four has no offset above 15
 static void table_setup_line(void)
 {
-    int duty = below(12), table = below(4), other = (table + between(1, 3)) % 4, two = one_in(4), hot, override;
+    int duty = below(12), table = below(4), other = (table + between(1, 3)) % 4, two = one_in(4), narrow = one_in(4), hot, override;
+    int row[2][12], wide[2];
+    for (int i = 0; i < 2; i++) {
+        wide[i] = !narrow && !one_in(6);
+        if (wide[i]) wide_row(row[i]);
+        else narrow_row(row[i]);
+    }
     add("S");
     number(below(3));
-    for (int i = 0; i < 4; i++) number(some_base());
-    for (int i = 0; i < 2; i++) offset_row();
+    for (int i = 0; i < 4; i++) number(wide[i / 2] ? low_base(row[i / 2]) : some_base());
+    for (int i = 0; i < 24; i++) number(row[i / 12][i % 12]);
     for (int i = 0; i < 2; i++) number(some_hysteresis());
     for (int i = 0; i < 13; i++) {
         number(duty);
@@ -494,6 +571,31 @@ static void table_setup_line(void)
     for (int i = 0; i < 2; i++) override = below(257), number_or_dash(override, one_in(16) ? 2 : 1);
     for (int i = 0; i < 2; i++) number(one_in(4) ? below(257) : below(4));
     for (int i = 0; i < 2; i++) number(one_in(4) ? below(5) : 0);
+}
+
+// makes one number of a setup wrong, most often an offset, now and then a hysteresis: out of range or, seldom, misspelled
+static void spoil_setup(void)
+{
+    static const char *const offsets[] = {"65", "79", "127", "128", "255", "256", "271", "319", "320", "65535", "65536", "65599", "65599",
+                                          "4294967296", "4294967359", "-1", "-1", "-63", "-64", "-193", "-", "-"};
+    static const char *const hystereses[] = {"16", "16", "16", "17", "62", "63", "63", "64", "-1", "-"};
+    static const char *const spelled[] = {"", "-0", "-00", "00", "015", "016", "063", "064", "+63", "3F", "63 ", " 63", "6 3", "63.", "--"};
+    static const int ends[] = {0, 11, 12, 23};
+    int at = OFFSETS + (one_in(5) ? ends[below(4)] : below(24));
+    refused = 1;
+    switch (below(16)) {
+    case 0: replace_field(1 + at, spelled[below(sizeof spelled / sizeof spelled[0])]); break;
+    case 1: case 2: at = HYSTERESES + below(2); replace_field(1 + at, hystereses[below(10)]); break;
+    case 3: case 4: replace_field(1 + BOOST_HYSTERESIS, hystereses[below(10)]); break;
+    case 5: case 6: case 7: case 8: case 9: case 10: replace_field(1 + at, "64"); break;
+    default: replace_field(1 + at, offsets[below(sizeof offsets / sizeof offsets[0])]);
+    }
+}
+
+static void some_setup_line(void)
+{
+    if (one_in(3)) setup_line();
+    else table_setup_line();
 }
 
 static int setup[SETUP]; // guessed: its numbers, save those that no scene asks for
@@ -520,15 +622,29 @@ static int hysteresis(int table) { return unit(table) * setup[HYSTERESES + table
 
 enum { COLDEST = -254, HOTTEST = 255, MISSING = 100000 };
 
-static int in_reach(int h) { return h >= COLDEST && h <= HOTTEST; }
+static int within_reach(int h) { return clamp(h, COLDEST, HOTTEST); }
 
-static int within_reach(int h) { return h < COLDEST ? COLDEST : h > HOTTEST ? HOTTEST : h; }
+// how many thresholds are not above h; none is below the coldest reading
+static int thresholds_to(int table, int h)
+{
+    int n = 0;
+    while (n < 12 && threshold(table, n + 1) <= h) n++;
+    return n;
+}
 
+// any where none is; now and then the highest, or one that is in reach only of a reading plus hysteresis
 static int threshold_in_reach(int table)
 {
-    int k = between(1, 12);
-    for (int i = 0; i < 8 && !in_reach(threshold(table, k)); i++) k = between(1, 12);
-    return k;
+    int n = thresholds_to(table, HOTTEST), later = thresholds_to(table, HOTTEST + hysteresis(table));
+    if (later > n && one_in(3)) return between(n + 1, later);
+    return n == 0 ? between(1, 12) : one_in(6) ? n : between(1, n);
+}
+
+// where not all are in reach, most often the hottest reading there is
+static int above_thresholds_in_reach(int table)
+{
+    int n = thresholds_to(table, HOTTEST);
+    return n < 12 && !one_in(3) ? HOTTEST : threshold(table, n) + below(60);
 }
 
 // if the hysteresis reaches over the next threshold, too
@@ -647,10 +763,10 @@ static int bound_table(int fan)
 // channels. +: one of what may stand between two readings of a channel.
 // Of a table, a or b of the two that the scene keeps, or 1 to 4: @: a reading at the threshold that the scene keeps. < and >: a half degree
 // below or above it. _: at that threshold minus the hysteresis. , and ': a half degree below or above that. %: from there up to the threshold.
-// i and d: at a corner of the next threshold up or down, which the scene then keeps. :: at a corner of any. U: not below any. D: so far below
-// all that hysteresis holds no step. $: missing. W: a write of zone 3 or 4 with a reading at a corner, open or not.
+// i and d: at a corner of the next threshold up or down, which the scene then keeps. :: at a corner of any. U: not below any that readings
+// reach. D: so far below all that hysteresis holds no step. $: missing. W: a write of zone 3 or 4 with a reading at a corner, open or not.
 // B: a write of BDh. Y: of 35h. E: of 31h. p: one of what may stand between two ticks.
-// Others: events.
+// S: a setup, every other one with a wrong number. Others: events.
 static const char *const scenes[] = {
     "O O", "O O", "O O O", "O O O", "O O O", "O O G?", "P? O O G?", "O P? O G?", "O A O G?", "G?", "G? G? P? G?", "P? G?", "P? K G?",
     "G2 G3 G4 G5 G7",
@@ -706,7 +822,8 @@ static const char *const between_readings[] = {
     "-a", "-a", "-a", "ca", "Ca", "{a", "{a", "}a", "}a", "ya", "ya", "xa", "xa", "!b", "~b", "=b", ".b", "-b", "cb", "M",
 };
 static const char *const table_starts[] = {
-    "D1 D2 D3 D4 K", "B D1 D2 D3 D4 K", "D4 D3 D2 D1 K", ":1 :2 :3 :4 K", "B :1 :2 :3 :4 K", "K :1 :2 :3 :4 K", "U1 U2 U3 U4 B K",
+    "D1 D2 D3 D4 K", "B D1 D2 D3 D4 K", "B D4 D3 D2 D1 K", ":1 :2 :3 :4 K", "B :1 :2 :3 :4 K", "K :1 :2 :3 :4 K", "U1 U2 U3 U4 B K",
+    "K U1 U2 U3 U4 K", "B K U1 U2 U3 U4 K", "$1 $2 $3 $4 K U1 U2 U3 U4 K", "B $1 $2 $3 $4 K U1 U2 U3 U4 K",
     "E D1 D2 D3 D4 K", "Y D1 D2 D3 D4 K", "B E Y :1 :2 :3 :4 K",
 };
 static const char *const table_scenes[] = {
@@ -716,6 +833,8 @@ static const char *const table_scenes[] = {
     "Ua K _a K", "Ua K ,a K", "Ua K 'a K _a K ,a K", "Ua K @a K <a K _a K", "Ua K %a K %a K ,a K", "Ua K ,a K _a K @a K",
     "$a K _a K ,a K", "$a K @a K <a K", "$a K ,a K @a K", "$a K %a K", "$a K Ua K Da K", "$a K :a K :a K", "@a K $a K _a K ,a K",
     "@a K $a _a K ,a K", "Da K $a K 'a K", "Ua K $a K >a K _a K",
+    "$a K Ua K", "$a K Ua K", "$a K Ua K ,a K", "$a $b K Ua Ub K _a ,b K", "$a K B Ua K :a K", "$a K p Ua K K", "Ua K $a K Ua K _a K",
+    "B $a K Ua K _a K ,a K", "$a K Ua K $a K _a K ,a K", "$a K 'a K _a K ,a K", "$a $b K 'a _b K _a ,b K",
     "Da K Ua K Da K", "Ua K Da K Ua K", "Da K Ua K %a K Ua K ,a K", "Ua Ub K Da Ub K Ua Db K",
     "Da K ia K ia K ia K ia K", "Da K ia K <a K ia K <a K ia K <a K", "Ua K da K da K da K da K",
     "@a K ia K ia K da K da K da K", "$a K da K da K ia K", "ia K da K ia K ia K da K",
@@ -734,7 +853,7 @@ static const char *const between_ticks[] = {
 static const char *const long_scenes[] = {"G9 G9 G9 G9 G9 G9 G9 G9", "G9 G9 G9 G9 P9 P9 P9 O", "GC G5 G9 G9 V K"};
 
 static const char *scene = "", *scene_after = ""; // what is left of it; what comes then
-static int scene_command, scene_high, scene_fans[2], scene_channels[2], scene_vh, scene_tables[2], scene_threshold = 1;
+static int scene_command, scene_high, scene_fans[2], scene_channels[2], scene_vh, scene_tables[2], scene_thresholds[2] = {1, 1};
 static struct window scene_windows[2];
 
 static int command_at(const char *digit)
@@ -742,17 +861,18 @@ static int command_at(const char *digit)
     return *digit == '?' ? scene_command : 0xF0 + (*digit <= '9' ? *digit - '0' : *digit - 'A' + 10);
 }
 
-static int next_threshold(int move)
+// the next one out of reach only now and then
+static int next_threshold(int table, int *k, int move)
 {
-    int k = scene_threshold + move;
-    return scene_threshold = k < 1 ? 1 : k > 12 ? 12 : k;
+    int last = one_in(6) ? 12 : thresholds_to(table, HOTTEST);
+    return *k = clamp(*k + move, 1, last ? last : 1);
 }
 
 static void table_line_of(const char *at)
 {
     static const int sources[] = {0x00, 0x00, 0x04, 0x08, 0x0C, 0x10, 0x1C, 0x01, 0x02, 0x12};
-    int table = at[1] >= '1' && at[1] <= '4' ? at[1] - '1' : scene_tables[at[1] == 'b'], zone;
-    int up = threshold(table, scene_threshold), down = up - hysteresis(table);
+    int second = at[1] == 'b', table = at[1] >= '1' && at[1] <= '4' ? at[1] - '1' : scene_tables[second], zone, halves;
+    int *k = &scene_thresholds[second], up = threshold(table, *k), down = up - hysteresis(table);
     switch (*at) {
     case '@': show(table, up); break;
     case '<': show(table, up - 1); break;
@@ -761,14 +881,14 @@ static void table_line_of(const char *at)
     case ',': show(table, down - 1); break;
     case '\'': show(table, down + 1); break;
     case '%': show(table, between(down, up)); break;
-    case 'i': show(table, table_corner(table, next_threshold(1))); break;
-    case 'd': show(table, table_corner(table, next_threshold(-1))); break;
+    case 'i': show(table, table_corner(table, next_threshold(table, k, 1))); break;
+    case 'd': show(table, table_corner(table, next_threshold(table, k, -1))); break;
     case ':': show(table, any_table_corner(table)); break;
-    case 'U': show(table, threshold(table, 12) + below(60)); break;
+    case 'U': show(table, above_thresholds_in_reach(table)); break;
     case 'D': show(table, threshold(table, 1) - hysteresis(table) - between(1, 60)); break;
     case '$': show(table, MISSING); break;
     case 'W': zone = between(4, 5); zone_by_bus(zone, within_reach(any_table_corner(table))); break;
-    case 'B': write_own(0xBD, below(256)); break;
+    case 'B': halves = one_in(3) ? 0x30 : 0x00; write_own(0xBD, below(256) | halves); break;
     case 'Y': write_own(0x35, one_in(3) ? 0x30 : below(256)); break;
     case 'E': write_own(0x31, one_in(6) ? below(32) : sources[below(10)]); break;
     }
@@ -796,7 +916,7 @@ static void line_of(const char *at)
     case 'A': event_line(A); break;
     case 'K': event_line(K); break;
     case 'X': add("X"); break;
-    case 'S': setup_line(); break;
+    case 'S': some_setup_line(); if (one_in(2)) spoil_setup(); break;
     case 'l': read_fan(own_address(), fan, 0); break;
     case 'h': read_fan(own_address(), fan, 1); break;
     case 'u': address = other_address(); read_fan(address, fan, below(2)); break;
@@ -881,8 +1001,10 @@ static void begin_table_scene(void)
     static int shown;
     int fan = below(2);
     BEGIN(table_scenes);
-    for (int i = 0; i < 2; i++) scene_tables[i] = bound_table(i ? !fan : fan);
-    scene_threshold = one_in(3) ? threshold_in_reach(scene_tables[0]) : crowded_threshold(scene_tables[0]);
+    for (int i = 0; i < 2; i++) {
+        scene_tables[i] = bound_table(i ? !fan : fan);
+        scene_thresholds[i] = one_in(3) ? threshold_in_reach(scene_tables[i]) : crowded_threshold(scene_tables[i]);
+    }
     if (shown && !one_in(4)) return;
     shown = 1;
     scene_after = scene;
@@ -904,12 +1026,12 @@ static void follow_write(void)
         for (int i = 0; i < 32; i++) held[0x90 + i] = field_at(11 + 3 * i);
 }
 
-// asks only for the numbers that setup_line has out of range now and then
+// asks only for the offsets, and for the numbers that setup_line has out of range now and then
 static int in_range(const int *n)
 {
     int good = n[0] <= 2;
     for (int i = 0; i < 4; i++) good &= n[BASES + i] <= 127;
-    for (int i = OFFSETS; i < HYSTERESES; i++) good &= n[i] <= 15;
+    for (int i = OFFSETS; i < HYSTERESES; i++) good &= n[i] <= 63;
     for (int i = DUTIES + 1; i < BOOSTS; i++) good &= n[i] >= n[i - 1];
     for (int i = 0; i < 6; i++) good &= n[BOOSTS + i] >= -127;
     return good && n[DUTIES] >= 0;
@@ -963,10 +1085,10 @@ static void damage(void)
 
 // with_scenes: block reads and writes, reads of fan counts, voltages at the corners of their limits, and temperatures at the corners of the
 // tables' thresholds stand between the events, in a few sessions so many block lines that neither they nor their answers fit into 16 KiB,
-// in others a setup made for the tables first
+// in others a setup made for the tables first, before it now and then some that are refused
 static void session(int with_scenes)
 {
-    int lines = between(1, 120), bad = below(4) * 5, begin = 0, more = 0, tables = 0;
+    int lines = between(1, 120), bad = below(4) * 5, begin = 0, more = 0, tables = 0, setup_due = 0, refused_setups = 0;
     for (int i = 0; i < 16; i++) held[0x91 + 2 * i] = 0xFF;
     held[0x35] = 0x30;
     guess_plain_setup();
@@ -979,9 +1101,12 @@ static void session(int with_scenes)
         else if (one_in(2)) BEGIN(first_scenes);
         else if (one_in(2)) BEGIN(first_fan_scenes);
         else begin_volt_scene();
+        setup_due = tables || one_in(2);
+        if (setup_due && one_in(2)) refused_setups = one_in(6) ? between(8, 24) : between(1, 5);
+        lines += refused_setups;
     }
     for (int i = 0; i < lines; i++) {
-        int setup_first = tables && !begun;
+        int setup_first = setup_due && !begun;
         len = refused = 0;
         if (!*scene && begin && !setup_first && below(100) < begin) {
             if (more) BEGIN(long_scenes);
@@ -990,9 +1115,17 @@ static void session(int with_scenes)
             else if (one_in(2)) BEGIN(scenes);
             else BEGIN(fan_scenes);
         }
-        if (setup_first) table_setup_line();
-        else if ((i == 0 && one_in(2)) || one_in(60)) setup_line();
-        else if ((*scene || due_len) && !one_in(8)) scene_line();
+        if (setup_first) {
+            if (tables) table_setup_line();
+            else some_setup_line();
+            if (refused_setups) {
+                spoil_setup();
+                setup_due = --refused_setups || !one_in(4);
+            }
+        } else if ((!with_scenes && i == 0 && one_in(2)) || one_in(60)) {
+            if (with_scenes) line_of("S");
+            else setup_line();
+        } else if ((*scene || due_len) && !one_in(8)) scene_line();
         else if (with_scenes && one_in(8)) line_of(one_in(2) ? "~a" : one_in(2) ? ".a" : ".b");
         else event_line(below(20));
         if (bad && below(100) < bad) damage();
@@ -1028,8 +1161,6 @@ static int thresholds_reached(int h)
     return n;
 }
 
-static int clamp(int n, int low, int high) { return n < low ? low : n > high ? high : n; }
-
 // by document 01's numbers of thresholds
 static int step_after(int old, int h, int hysteresis)
 {
@@ -1040,15 +1171,20 @@ static int step_after(int old, int h, int hysteresis)
 
 static struct lookup some_lookup(void)
 {
-    static const int largest[] = {1, 2, 4, 4, 8, 15, 15, 15, 15, 63, 63, 63, 255}, zeros_of_8[] = {0, 0, 0, 0, 1, 2, 4, 6, 7, 8};
-    static const int units[] = {0, 3, 255};
-    int most = largest[below(13)], zeros = zeros_of_8[below(10)], alike = one_in(4), any;
+    static const int largest[] = {1, 2, 4, 4, 8, 15, 15, 15, 16, 62, 63, 63, 63, 64, 255};
+    static const int zeros_of_8[] = {0, 0, 0, 0, 1, 2, 4, 6, 7, 8}, units[] = {0, 3, 255};
+    int most = largest[below(15)], zeros = zeros_of_8[below(10)], alike = one_in(4), any, one;
     struct lookup l;
-    l.base = one_in(12) ? (one_in(2) ? -127 : 127) : some_base();
+    l.base = one_in(12) ? end_base() : some_base();
     l.unit = one_in(8) ? (one_in(4) ? below(256) : units[below(3)]) : between(1, 2);
     for (int i = 0; i < 12; i++) {
         any = alike ? most : below(most + 1);
         l.offset[i] = below(8) < zeros ? 0 : any;
+    }
+    if (one_in(5)) {
+        wide_row(l.offset);
+        if (one_in(2)) l.base = low_base(l.offset);
+        if (one_in(3)) one = below(12), l.offset[one] = between(63, 65);
     }
     return l;
 }
@@ -1156,14 +1292,6 @@ static int fields(void)
     int n = 1;
     for (int i = 0; i < len; i++) n += line[i] == '\t';
     return n;
-}
-
-static void replace_field(int nth, const char *text)
-{
-    int at = 0, n = 0;
-    for (; nth > 0; nth--) at += strcspn(line + at, "\t") + 1;
-    while (at + n < len && line[at + n] != '\t') n++;
-    replace(at, n, text);
 }
 
 static void misspelled_field(void)
