@@ -17,22 +17,22 @@ use Rattle.settings.specs.declared.Settings.{Settings}
 use Rattle.settings.specs.Settings.{refusedSettings, settingsOf}
 use Rattle.settings.specs.Before.{oldSettingsOf, Wide, meant-before, wide-refused, narrow-same}
 use Rattle.line.specs.declared.Session.{Session}
+use Rattle.line.specs.declared.Asked.{Asked}
 use Rattle.line.specs.declared.Asked.the-variants as asked
 use Rattle.line.specs.Line.{Judged, askedSettings, askedOther, askedBy, askedText, refusedLine, begunLine, setupLine, judgedBy, judgedLine}
 use Rattle.line.specs.Session.{printedBy, printedFrom}
 
 -- ---- the old reader
 
--- what comes of a line with the letter S, by its settings: 4, 3 and 1 in this order
-abbrev pub settingsLine : Session → Settings → Judged
-settingsLine s x =
-    pick (eqb (x .refusal) 4) (refusedLine s 4)
-    (pick (s .begun) (refusedLine s 3)
-    (pick (eqb (x .refusal) 0) (begunLine (powerOn (x .setup)) answer.Nothing) (refusedLine s (x .refusal))))
+-- what comes of something that a line asks for, with these settings in place of its own
+unfoldable pub madeBy : Session → List ℕ → Settings → Asked → Judged
+madeBy s l x asked.Setup = begunLine (powerOn (x .setup)) answer.Nothing
+madeBy s l x (asked.Refused n) = judgedBy s l (asked.Refused n)
+madeBy s l x (asked.Event e) = judgedBy s l (asked.Event e)
 
--- "line too long" before that
+-- what comes of a line with the letter S, with these settings; "line too long" is asked first
 abbrev pub letterS : Session → List ℕ → Settings → Judged
-letterS s l x = pick (ltb 512 (length l)) (refusedLine s 4) (settingsLine s x)
+letterS s l x = madeBy s l x (pick (ltb 512 (length l)) (asked.Refused 4) (askedSettings (s .begun) (x .refusal)))
 
 -- a line with the letter S, 83, goes by the old ranges, any other is what it is now
 unfoldable pub oldLine : Session → List ℕ → Judged
@@ -51,26 +51,23 @@ unfolding eventBy
 no-event l e = rw e
 
 module _ (s : Session) (l : List ℕ) where
-  -- what comes of it, by what its settings are asked for
-  judged-settings : (long wrong begun taken : Bool) → judgedBy s l (pick long (asked.Refused 4) (pick wrong (asked.Refused 4) (pick begun (asked.Refused 3) (pick taken asked.Setup (asked.Refused (settingsOf l .refusal)))))) ≡ pick long (refusedLine s 4) (pick wrong (refusedLine s 4) (pick begun (refusedLine s 3) (pick taken (setupLine l) (refusedLine s (settingsOf l .refusal)))))
-  unfolding judgedBy
-  judged-settings true wrong begun taken = refl
-  judged-settings false true begun taken = refl
-  judged-settings false false true taken = refl
-  judged-settings false false false true = refl
-  judged-settings false false false false = refl
+  -- with its own settings it is what comes of it now
+  made-now : (a : Asked) → judgedBy s l a ≡ madeBy s l (settingsOf l) a
+  unfolding madeBy judgedBy setupLine
+  made-now asked.Setup = refl
+  made-now (asked.Refused n) = refl
+  made-now (asked.Event e) = refl
 
-  -- a line with the letter S now
   now-line : letterOf l ≡ 83 → judgedLine s l ≡ letterS s l (settingsOf l)
-  unfolding judgedLine askedText askedBy askedOther askedSettings setupLine
-  now-line e = rw (no-event l e, e) (judged-settings (ltb 512 (length l)) (eqb (settingsOf l .refusal) 4) (s .begun) (eqb (settingsOf l .refusal) 0))
+  unfolding judgedLine askedText askedBy askedOther
+  now-line e = rw (no-event l e, e) (made-now _)
 
   -- one that is taken is not too long, has no taken line before it, and its settings are not refused
   letter-taken : (x : Settings) → letterS s l x .refusal ≡ 0 → (ltb 512 (length l) ≡ false) × (s .begun ≡ false) × (x .refusal ≡ 0)
-  unfolding refusedLine
+  unfolding madeBy judgedBy askedSettings refusedLine
   letter-taken x = go (ltb 512 (length l)) (eqb (x .refusal) 4) (s .begun) (eqb (x .refusal) 0) (eqb-true (x .refusal) 0)
     where
-      go : (long wrong begun fits : Bool) → (fits ≡ true → x .refusal ≡ 0) → pick long (refusedLine s 4) (pick wrong (refusedLine s 4) (pick begun (refusedLine s 3) (pick fits (begunLine (powerOn (x .setup)) answer.Nothing) (refusedLine s (x .refusal))))) .refusal ≡ 0 → (long ≡ false) × (begun ≡ false) × (x .refusal ≡ 0)
+      go : (long wrong begun fits : Bool) → (fits ≡ true → x .refusal ≡ 0) → madeBy s l x (pick long (asked.Refused 4) (pick wrong (asked.Refused 4) (pick begun (asked.Refused 3) (pick fits asked.Setup (asked.Refused (x .refusal)))))) .refusal ≡ 0 → (long ≡ false) × (begun ≡ false) × (x .refusal ≡ 0)
       go true wrong begun fits h z = absurd (omega arith)
       go false true begun fits h z = absurd (omega arith)
       go false false true fits h z = absurd (omega arith)
@@ -89,7 +86,7 @@ module _ (s : Session) (l : List ℕ) where
 
   -- "an old reader refuses a line with an offset above 15 with 1": one that is taken now
   pub line-refused : letterOf l ≡ 83 → judgedLine s l .refusal ≡ 0 → Wide (settingsOf l .setup) → oldLine s l ≡ refusedLine s 1
-  unfolding oldLine refusedSettings
+  unfolding oldLine madeBy judgedBy askedSettings refusedSettings
   line-refused e z w =
       let t = letter-taken (settingsOf l) (ap (λ (j : Judged). j .refusal) (sym (now-line e)) ∙ z) in
       rw (e, t .0, t .1, wide-refused l (t .2) w)
