@@ -48,17 +48,18 @@ pub fan-kept : (givenRegister lowRead 0x73 ≡ 0x48) × (shownRegister lowRead 0
 unfolding lowRead givenRegister givenAt shownRegister shownHome shownKind keptAfter keptAs givenByte fanByteAt byteOfKind fanWord lowByte highByte withFan fanAt keptAt kindOf homeOf homes powerOn atRest defaultSetup defaults
 fan-kept = (refl, refl, refl, refl, refl, refl, refl, refl, refl)
 
--- zone 3: not writable without INT_WR_E; with it, a written byte clears the half bit, at 52h and at 21h; 20h changes the half bit alone;
--- 80h makes it missing, and then 20h changes nothing. Zone 4 is writable while EXT_AD15 is clear
+-- zone 3: not writable without INT_WR_E; with it, a written byte sets the fraction to 0, at 52h and at 21h; 20h sets the half bit and the rest
+-- to 0, where the bit is another and where it is the same (269 is 16 degrees and 13 sixteenths, half set, and 259 is not); 80h makes it
+-- missing, and then 20h changes nothing. Zone 4 is writable while EXT_AD15 is clear
 unfoldable pub written : ℕ → ℕ → Chip → Chip
 written a byte c = wroteRegister c a byte
 
 unfoldable pub zoneThree : Reading → Chip
 zoneThree r = withZone (withRegister fresh 0x31 0x10) 4 r
 
-pub zone-writes : (zoneAt (written 0x52 0x20 fresh) 4 ≡ reading.Missing) × (zoneAt (written 0x52 0x20 (zoneThree (reading.Taken (pos 33)))) 4 ≡ reading.Taken (pos 64)) × (zoneAt (written 0x21 0xFF (zoneThree (reading.Taken (pos 33)))) 4 ≡ reading.Taken (negsuc 1)) × (zoneAt (written 0x20 0xFF (zoneThree (reading.Taken (negsuc 1)))) 4 ≡ reading.Taken (negsuc 0)) × (zoneAt (written 0x52 0x80 (zoneThree (reading.Taken (pos 33)))) 4 ≡ reading.Missing) × (zoneAt (written 0x20 0x80 (zoneThree reading.Missing)) 4 ≡ reading.Missing) × (zoneAt (written 0x53 0x81 fresh) 5 ≡ reading.Taken (negsuc 253)) × (zoneAt (written 0x53 0x81 (withRegister fresh 0x31 0x02)) 5 ≡ reading.Missing) × (zoneAt (written 0x50 0x20 fresh) 0 ≡ reading.Missing)
+pub zone-writes : (zoneAt (written 0x52 0x20 fresh) 4 ≡ reading.Missing) × (zoneAt (written 0x52 0x20 (zoneThree (reading.Taken (pos 269)))) 4 ≡ reading.Taken (pos 512)) × (zoneAt (written 0x21 0xFF (zoneThree (reading.Taken (pos 269)))) 4 ≡ reading.Taken (negsuc 15)) × (zoneAt (written 0x20 0xFF (zoneThree (reading.Taken (negsuc 15)))) 4 ≡ reading.Taken (negsuc 7)) × (zoneAt (written 0x20 0x80 (zoneThree (reading.Taken (pos 269)))) 4 ≡ reading.Taken (pos 264)) × (zoneAt (written 0x20 0x7F (zoneThree (reading.Taken (pos 269)))) 4 ≡ reading.Taken (pos 256)) × (zoneAt (written 0x20 0x7F (zoneThree (reading.Taken (pos 259)))) 4 ≡ reading.Taken (pos 256)) × (zoneAt (written 0x52 0x80 (zoneThree (reading.Taken (pos 269)))) 4 ≡ reading.Missing) × (zoneAt (written 0x20 0x80 (zoneThree reading.Missing)) 4 ≡ reading.Missing) × (zoneAt (written 0x53 0x81 fresh) 5 ≡ reading.Taken (negsuc 2031)) × (zoneAt (written 0x53 0x81 (withRegister fresh 0x31 0x02)) 5 ≡ reading.Missing) × (zoneAt (written 0x50 0x20 fresh) 0 ≡ reading.Missing)
 unfolding written zoneThree wroteRegister changed changeOf changeHome changeKind isShut changeWhole changeHalf zoneWritable withRegister withZone zoneAt registerAt readingOf degreesOf withHalf isSet lockMarked lockMarks kindOf homeOf homes powerOn atRest defaultSetup defaults
-zone-writes = (refl, refl, refl, refl, refl, refl, refl, refl, refl)
+zone-writes = (refl, refl, refl, refl, refl, refl, refl, refl, refl, refl, refl, refl)
 
 -- only writable bits are stored; a written 1 clears an error bit and a 0 keeps it; LOCK can be set, cannot be cleared and keeps marked registers
 pub plain-writes : (registerAt (written 0x33 0xFF fresh) 0x33 ≡ 0xF8) × (registerAt (written 0x3F 0x00 fresh) 0x3F ≡ 0x79) × (registerAt (written 0x41 0x05 (withRegister fresh 0x41 0x07)) 0x41 ≡ 0x02) × (registerAt (written 0xE3 0x00 (written 0xE3 0x02 fresh)) 0xE3 ≡ 0x02) × (registerAt (written 0xBF 0x11 (written 0xE3 0x02 fresh)) 0xBF ≡ 0x00) × (registerAt (written 0x90 0x11 (written 0xE3 0x02 fresh)) 0x90 ≡ 0x11) × (registerAt (written 0x24 0xFF fresh) 0x24 ≡ 0x00)

@@ -39,12 +39,13 @@ cleared c a byte = Register a (clearedByte (registerAt c a) (writableOf a) byte)
 unfoldable pub zoneWritable : ℕ → ℕ → Bool
 zoneWritable source zone = pick (eqb zone 4) (isSet source INT-WR-E) (pick (eqb zone 5) (not (isSet source EXT-AD15)) false)
 
--- "Writing a zone's whole-degree byte, at either address, sets its half bit to 0"
+-- "Writing a zone's whole-degree byte, at either address, sets its half bit to 0"; 02, Q-7: "A bus write of the whole byte sets the fraction
+-- to 0"
 unfoldable pub changeWhole : Chip → ℕ → ℕ → Change
 changeWhole c zone byte =
     pick (zoneWritable (registerAt c TEMPERATURE-SOURCE-SELECT) zone) (ZoneReading zone (readingOf byte)) Nothing
 
--- "writing 20h or 22h changes only the half bit (bit 7), and not even that while the zone is missing"
+-- "writing 20h or 22h changes only the half bit (bit 7), and not even that while the zone is missing"; 02, Q-7: "of the half bit the rest to 0"
 unfoldable pub changeHalf : Chip → ℕ → ℕ → Change
 changeHalf c zone byte =
     pick (zoneWritable (registerAt c TEMPERATURE-SOURCE-SELECT) zone) (ZoneReading zone (withHalf (zoneAt c zone) (isSet byte HALF))) Nothing

@@ -2,6 +2,7 @@
 // file stdout, which is worked out from the data sheet (docs/DATASHEET.md).
 use libc::STDOUT_FILENO;
 use map::Block;
+use temperature::HALF;
 use temperature::Reading;
 
 // A tick, which is what a ramp's delay counts.
@@ -102,13 +103,13 @@ fn ramp_delays() {
 
 fn above(n: u8) -> Reading {
     io::print_decimal(STDOUT_FILENO, n as u64);
-    Reading::Taken(n as i16)
+    Reading::Taken(n as i16 * HALF)
 }
 
 fn below(n: u8) -> Reading {
     text(b"-");
     io::print_decimal(STDOUT_FILENO, n as u64);
-    Reading::Taken(0 - n as i16)
+    Reading::Taken(0 - n as i16 * HALF)
 }
 
 fn whole_row(reading: Reading) {

@@ -5,4 +5,5 @@ pub mod PrintedBlocks
 pub mod PrintedVolts
 pub mod PrintedFans
 pub mod PrintedOffsets
+pub mod PrintedSixteenths
 pub mod ProvedCases

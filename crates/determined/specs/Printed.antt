@@ -9,7 +9,7 @@ use Rattle.text.specs.Fields.{firstField, otherFields, fieldsOf, fieldAt}
 use Rattle.text.specs.Number.{isDigit, allDigits, valueOf, runOf, plusOf, minusOf, decimalOf, isSpelt}
 use Rattle.text.specs.Hex.{nibbleOf, hexByteOf}
 use Rattle.text.specs.Answers.{digitsText, columnText, hexDigit, hexText, digitOf, ackText, byteText, noByteText, tickText, refusalText}
-use Rattle.parse.specs.Parse.{letterOf, numberAt, indexOf, spelledReading, countOf, pairOf, temperatureLine, hotLine, aloneLine, twoBy, twoOf, threeBy, threeOf, writeBy, writeLine, readBy, readLine, eventBy, dataOf}
+use Rattle.parse.specs.Parse.{letterOf, numberAt, indexOf, spelledStated, countOf, pairOf, temperatureLine, hotLine, aloneLine, twoBy, twoOf, threeBy, threeOf, writeBy, writeLine, readBy, readLine, eventBy, dataOf}
 use Rattle.line.specs.Line.{startSession, answerText}
 use Rattle.line.specs.Session.{printedFrom}
 use Rattle.determined.specs.Said.{says, AllSay, none, more, textAt, said-prints, AllPlain, plainFrom, plain-prints}
@@ -47,7 +47,7 @@ output =
 
 -- each line says its event
 said : AllSay input session
-unfolding input session letterOf eventBy aloneLine temperatureLine hotLine writeLine writeBy readLine readBy threeOf threeBy twoOf twoBy dataOf pairOf numberAt indexOf spelledReading countOf firstField otherFields fieldsOf fieldAt isDigit allDigits valueOf runOf plusOf minusOf decimalOf isSpelt nibbleOf hexByteOf
+unfolding input session letterOf eventBy aloneLine temperatureLine hotLine writeLine writeBy readLine readBy threeOf threeBy twoOf twoBy dataOf pairOf numberAt indexOf spelledStated countOf firstField otherFields fieldsOf fieldAt isDigit allDigits valueOf runOf plusOf minusOf decimalOf isSpelt nibbleOf hexByteOf
 said =
     more (says refl refl refl)
     (more (says refl refl refl)

@@ -8,7 +8,7 @@ use Rattle.laws.specs.Every.{every}
 use Rattle.laws.specs.Tab.{tab}
 use Rattle.map.specs.Tables.{defaults}
 use Rattle.map.specs.Bits.{isSet}
-use Rattle.temperature.specs.Temperature.{hotterOf}
+use Rattle.temperature.specs.Temperature.{statedReading, hotterOf}
 use Rattle.state.specs.Parts.{registerAt, zoneAt, hotAt}
 use Rattle.state.specs.With.{withZone}
 use Rattle.state.specs.PowerOn.{powerOn, atRest}
@@ -21,11 +21,11 @@ use Rattle.drive.specs.Boosts.{isBoosted, boostEnabled}
 use Rattle.drive.specs.Ramps.{delayOf, movedLevel, rampedOn}
 use Rattle.drive.specs.Duties.{boundLargest, tablesAsk, fanDuty, loadedStart, kickedFan}
 use Rattle.drive.specs.Tick.{followed, stepAfter, askAfter, stepsAfter, asksAfter, boostAfter, boostsAfter, anyOn, rampAfter, rampsAfter, levelsOf, dutyAfter, dutyOf, kickAfter, driveAfter, outputsAfter, driven, tickedChip}
-use Rattle.event.specs.Event.{eventIn, indexIn, readingIn, refusalOf, quietStep, tickAnswer, takenStep, steppedChip}
+use Rattle.event.specs.Event.{eventIn, indexIn, readingWithin, statedIn, refusalOf, quietStep, tickAnswer, takenStep, steppedChip}
 use Rattle.text.specs.Fields.{firstField, otherFields, fieldsOf, fieldAt}
 use Rattle.text.specs.Number.{isDigit, allDigits, valueOf, runOf, plusOf, minusOf, decimalOf, isSpelt}
 use Rattle.text.specs.Answers.{digitsText, columnText, digitOf, tickText, refusalText}
-use Rattle.parse.specs.Parse.{letterOf, numberAt, indexOf, spelledReading, pairOf, temperatureLine, aloneLine, eventBy, dataOf}
+use Rattle.parse.specs.Parse.{letterOf, numberAt, indexOf, spelledStated, pairOf, temperatureLine, aloneLine, eventBy, dataOf}
 use Rattle.settings.specs.Settings.{settingAt, rangeOf, isWithin, plainOf, signedOf, noneOr, setupBy, risesBy, refusedSettings, isSetup, settingsOf}
 use Rattle.settings.specs.Cases.{zeros}
 use Rattle.line.specs.Line.{startSession, askedEvent, askedSettings, askedOther, askedBy, askedText, refusedLine, begunLine, setupLine, eventLine, judgedBy, judgedLine, answerText}
@@ -76,5 +76,5 @@ offsetOutput =
     ∷ []
 
 pub offsets-printed : printedFrom startSession 1 offsetInput ≡ offsetOutput
-unfolding offsetInput offsetOutput startSession printedFrom printedBy judgedLine judgedBy askedText askedBy askedEvent askedOther askedSettings setupLine refusedLine eventLine begunLine answerText refusalOf eventIn indexIn readingIn eventBy letterOf fieldsOf firstField otherFields fieldAt temperatureLine aloneLine pairOf spelledReading numberAt indexOf decimalOf plusOf minusOf runOf allDigits isDigit valueOf isSpelt dataOf settingsOf refusedSettings isSetup settingAt every rangeOf isWithin risesBy plainOf signedOf noneOr setupBy tab steppedChip takenStep quietStep tookTemperature zoneHeard zoneThreeFed withZone tickAnswer tickedChip missed missedFile missedVolts missedFans missedVolt missedFan voltWatched fanWatched lowLimit highLimit fanLimit fanLimitAt alertActive errorsStanding bitsOf isSet driven driveAfter outputsAfter kickAfter dutyOf dutyAfter levelsOf rampsAfter rampAfter anyOn boostsAfter boostAfter kickedFan loadedStart fanDuty tablesAsk boundLargest rampedOn movedLevel delayOf isBoosted boostEnabled registerAt zoneAt hotAt powerOn atRest defaults asksAfter stepsAfter askAfter stepAfter followed askedDuty newStep settled notAbove thresholdReached isReached sumTo tableOf unitOf followedZone zoneOne zoneTwo joinedZone hotterOf countTo refusalText tickText columnText digitsText digitOf
+unfolding offsetInput offsetOutput startSession printedFrom printedBy judgedLine judgedBy askedText askedBy askedEvent askedOther askedSettings setupLine refusedLine eventLine begunLine answerText refusalOf eventIn indexIn statedIn readingWithin statedReading eventBy letterOf fieldsOf firstField otherFields fieldAt temperatureLine aloneLine pairOf spelledStated numberAt indexOf decimalOf plusOf minusOf runOf allDigits isDigit valueOf isSpelt dataOf settingsOf refusedSettings isSetup settingAt every rangeOf isWithin risesBy plainOf signedOf noneOr setupBy tab steppedChip takenStep quietStep tookTemperature zoneHeard zoneThreeFed withZone tickAnswer tickedChip missed missedFile missedVolts missedFans missedVolt missedFan voltWatched fanWatched lowLimit highLimit fanLimit fanLimitAt alertActive errorsStanding bitsOf isSet driven driveAfter outputsAfter kickAfter dutyOf dutyAfter levelsOf rampsAfter rampAfter anyOn boostsAfter boostAfter kickedFan loadedStart fanDuty tablesAsk boundLargest rampedOn movedLevel delayOf isBoosted boostEnabled registerAt zoneAt hotAt powerOn atRest defaults asksAfter stepsAfter askAfter stepAfter followed askedDuty newStep settled notAbove thresholdReached isReached sumTo tableOf unitOf followedZone zoneOne zoneTwo joinedZone hotterOf countTo refusalText tickText columnText digitsText digitOf
 offsets-printed = refl

@@ -1,16 +1,20 @@
 -- Document 01's cases, in one list under one statement, in 01's order and each under 01's words, with those of document 02 behind them, over
 -- the definitions that the code is proved to meet. negsuc n is -(n + 1). Zones, channels and fans count from 0. Assumes nothing.
 use mathlib.Core.Path.{_≡_, refl}
-use mathlib.Core.Bool.{true}
+use mathlib.Core.Bool.{Bool, true, false}
 use mathlib.Core.List.{[], _∷_}
 use Prim.Native.Nat.{ℕ}
-use lib.IntN.{pos, negsuc}
+use lib.IntN.{ℤ, pos, negsuc}
 use lib.ListN.{replicate}
 use Rattle.map.specs.Tables.{defaults}
 use Rattle.temperature.specs.declared.Reading.the-variants as reading
-use Rattle.temperature.specs.Temperature.{wholeByte, halfSet, readingOf, hotterOf}
+use Rattle.temperature.specs.declared.Stated.{Stated}
+use Rattle.temperature.specs.declared.Stated.the-variants.{Halves, Sixteenths}
+use Rattle.temperature.specs.Temperature.{HALF, DEGREE, statedReading, wholeByte, readingOf, hotterOf}
 use Rattle.temperature.specs.Cases as temperature
+use Rattle.temperature.specs.Cases.{Shows, T, U}
 use Rattle.state.specs.declared.Chip.{Chip}
+use Rattle.state.specs.declared.Boost.the-variants as boost
 use Rattle.state.specs.declared.Count.the-variants.{Taken}
 use Rattle.state.specs.Parts.{registerAt, zoneAt}
 use Rattle.state.specs.With.{withRegister, withZone}
@@ -27,10 +31,11 @@ use Rattle.bus.specs.Cases as bus
 use Rattle.drive.specs.declared.Searched.{Searched}
 use Rattle.drive.specs.Tables.{tableFrom, tableOf, newStep}
 use Rattle.drive.specs.Search.{searched}
+use Rattle.drive.specs.Boosts.{isBoosted}
 use Rattle.drive.specs.Cases as drive
 use Rattle.drive.specs.Cases.{tall}
-use Rattle.event.specs.declared.Event.the-variants.{WriteBlock}
-use Rattle.event.specs.Event.{refusalOf}
+use Rattle.event.specs.declared.Event.the-variants.{Temperature, WriteBlock}
+use Rattle.event.specs.Event.{indexIn, readingWithin, statedIn, eventIn, refusalOf}
 use Rattle.event.specs.Run.{answersTo}
 use Rattle.event.specs.Session.{session, answers, session-answers}
 use Rattle.settings.specs.Cases as settings
@@ -41,6 +46,7 @@ use Rattle.determined.specs.Printed.{input, output, printed}
 use Rattle.determined.specs.PrintedVolts.{voltInput, voltOutput, volts-printed}
 use Rattle.determined.specs.PrintedFans.{fanInput, fanOutput, fans-printed}
 use Rattle.determined.specs.PrintedOffsets.{offsetInput, offsetOutput, offsets-printed}
+use Rattle.determined.specs.PrintedSixteenths.{fineInput, fineOutput, fine-printed}
 use Rattle.determined.specs.PrintedBlocks.{blockInput, blockOutput, blocks-printed, RepliesIn, rooms, too-many}
 
 -- the chip at power-on without a setup, with a byte stored at an address
@@ -58,17 +64,33 @@ sevenAgain low high vh first second =
     let bounded = withRegister (withRegister (freshWith 0x9C low) 0x9D high) 0xBC vh in
     errorsStanding (tookVoltage (withRegister (withRegister (tookVoltage bounded 6 (Taken first)) 0x41 0x00) 0x49 0x00) 6 (Taken second) .registers)
 
+-- the chip with zone 3 at n sixteenths, writable by INT_WR_E in 31h, after a byte written at an address
+abbrev pub threeAt : ℕ → ℕ → ℕ → Chip
+threeAt n a byte = wroteRegister (withZone (freshWith 0x31 0x10) 4 (reading.Taken (pos n))) a byte
+
 -- the chip after a count of channel 11, which feeds zone 3 while INT_AD11 is set in 31h
 abbrev pub eleven : ℕ → Chip → Chip
 eleven n c = tookVoltage c 10 (Taken n)
 
--- a search from an old step at a taken reading, of table 1 without a setup: thresholds 64, 68, .., 108 half degrees, hysteresis 4
+-- a search from an old step at h half degrees, of table 1 without a setup: thresholds 64, 68, .., 108 half degrees, hysteresis 4
 abbrev pub searchFrom : ℕ → ℕ → Searched
-searchFrom old h = searched (tableOf defaultSetup 0x00 0) old (reading.Taken (pos h))
+searchFrom old h = searched (tableOf defaultSetup 0x00 0) old (T (pos h))
 
--- the step from an old step at a taken reading, by base and unit, of a table with twelve offsets of 63 and a hysteresis of 15
+-- the step from an old step at h half degrees, by base and unit, of a table with twelve offsets of 63 and a hysteresis of 15
 abbrev pub tallFrom : ℕ → ℕ → ℕ → ℕ → ℕ
-tallFrom base unit old h = newStep (tall (pos base) unit) old (reading.Taken (pos h))
+tallFrom base unit old h = newStep (tall (pos base) unit) old (T (pos h))
+
+-- 0 or the refusal of a T or a U
+abbrev pub temperatureRefusal : ℕ → Stated → ℕ
+temperatureRefusal zone stated = refusalOf (Temperature zone stated) []
+
+-- the step from an old step at n sixteenths, of table 1 without a setup: thresholds 512, 544, .., 864 sixteenths, hysteresis 32
+abbrev pub fineFrom : ℕ → ℕ → ℕ
+fineFrom old n = newStep (tableOf defaultSetup 0x00 0) old (U (pos n))
+
+-- whether a boost at a number of degrees, with a hysteresis of 3, is on at n sixteenths
+abbrev pub boostAt : ℤ → ℤ → Bool → Bool
+boostAt degrees n was = isBoosted true (boost.At degrees) 3 (U n) was
 
 pub record Cases : Type 0 where
   -- ---- "Lines and refusals"
@@ -78,11 +100,11 @@ pub record Cases : Type 0 where
   pub events : answersTo fresh session ≡ answers
   -- ---- "Proved cases"
   -- "h = -1 gives FFh, half set"
-  pub minus-one : (wholeByte (reading.Taken (negsuc 0)) ≡ 0xFF) × (halfSet (reading.Taken (negsuc 0)) ≡ true)
+  pub minus-one : Shows (T (negsuc 0)) 0xFF true
   -- "-254 gives 81h"
-  pub lowest : wholeByte (reading.Taken (negsuc 253)) ≡ 0x81
+  pub lowest : wholeByte (T (negsuc 253)) ≡ 0x81
   -- "255 gives 7Fh, half set"
-  pub highest : (wholeByte (reading.Taken (pos 255)) ≡ 0x7F) × (halfSet (reading.Taken (pos 255)) ≡ true)
+  pub highest : Shows (T (pos 255)) 0x7F true
   -- "AD_IN11 of 0 missing": behind a taken count
   pub eleven-none : zoneAt (eleven 0 (eleven 1 (freshWith 0x31 0x01))) 4 ≡ reading.Missing
   -- "1 gives 81h"
@@ -92,16 +114,16 @@ pub record Cases : Type 0 where
   -- "fan limit 3FFFh with a missing count, no error": at a tick from power-on
   pub fan-unwatched : (fanLimitAt (fresh .registers) 0 ≡ 0x3FFF) × (errorsStanding (missed fresh .registers) ≡ 0)
   -- "step from 12 at h = 70 is 3"
-  pub step-from-twelve : newStep (tableOf defaultSetup 0x00 0) 12 (reading.Taken (pos 70)) ≡ 3
+  pub step-from-twelve : newStep (tableOf defaultSetup 0x00 0) 12 (T (pos 70)) ≡ 3
   -- "from 0 it is 2"
-  pub step-from-none : newStep (tableOf defaultSetup 0x00 0) 0 (reading.Taken (pos 70)) ≡ 2
+  pub step-from-none : newStep (tableOf defaultSetup 0x00 0) 0 (T (pos 70)) ≡ 2
   -- ---- "Easy to get wrong"
   -- "Taking 80h as -128 degrees and slowing the fan"
   pub missing-mark : readingOf 0x80 ≡ reading.Missing
-  -- "Keeping the old half bit when the whole byte is written": zone 3 at 33 half degrees, 31h with INT_WR_E
-  pub half-cleared : zoneAt (wroteRegister (withZone (freshWith 0x31 0x10) 4 (reading.Taken (pos 33))) 0x52 0x20) 4 ≡ reading.Taken (pos 64)
+  -- "Keeping the old half bit when the whole byte is written": zone 3 at 269 sixteenths, half set, 31h with INT_WR_E
+  pub half-cleared : zoneAt (threeAt 269 0x52 0x20) 4 ≡ reading.Taken (pos 512)
   -- "Comparing temperature bytes without their sign"
-  pub signed : hotterOf (reading.Taken (negsuc 0)) (reading.Taken (pos 0)) ≡ reading.Taken (pos 0)
+  pub signed : hotterOf (T (negsuc 0)) (T (pos 0)) ≡ T (pos 0)
   -- "Letting X clear error bits": fan 1's, with the limit's high byte 80h, missing at a tick
   pub reset-keeps : errorsStanding (tookReset (missed (freshWith 0xB5 0x80)) .registers) ≡ 1
   -- "or restore limits"
@@ -164,13 +186,32 @@ pub record Cases : Type 0 where
   -- "an old reader refuses a line with an offset above 15 with 1": 15 and 16 at the same places
   pub offset-before : (oldRefusedWith 5 (49 ∷ 53 ∷ []) ≡ 0) × (oldRefusedWith 16 (49 ∷ 53 ∷ []) ≡ 0) × (oldRefusedWith 17 (49 ∷ 53 ∷ []) ≡ 0) × (oldRefusedWith 28 (49 ∷ 53 ∷ []) ≡ 0) × (oldRefusedWith 5 (49 ∷ 54 ∷ []) ≡ 1) × (oldRefusedWith 16 (49 ∷ 54 ∷ []) ≡ 1) × (oldRefusedWith 17 (49 ∷ 54 ∷ []) ≡ 1) × (oldRefusedWith 28 (49 ∷ 54 ∷ []) ≡ 1)
   -- twelve offsets of 63 from 127 degrees: thresholds that no reading reaches, counted in degrees and in half degrees
-  pub tall-unreached : (tallFrom 127 2 0 255 ≡ 0) × (tallFrom 127 2 12 255 ≡ 0) × (tallFrom 127 1 0 255 ≡ 0) × (tallFrom 127 1 12 255 ≡ 0)
+  pub tall-unreached : (tallFrom 127 DEGREE 0 255 ≡ 0) × (tallFrom 127 DEGREE 12 255 ≡ 0) × (tallFrom 127 HALF 0 255 ≡ 0) × (tallFrom 127 HALF 12 255 ≡ 0)
   -- exact up to the twelfth, 756 counts above the base: 1766 half degrees or 1010, of a reading that no chip has
-  pub tall-exact : (tallFrom 127 2 0 1766 ≡ 12) × (tallFrom 127 2 0 1765 ≡ 11) × (tallFrom 127 1 0 1010 ≡ 12) × (tallFrom 127 1 0 1009 ≡ 11)
+  pub tall-exact : (tallFrom 127 DEGREE 0 1766 ≡ 12) × (tallFrom 127 DEGREE 0 1765 ≡ 11) × (tallFrom 127 HALF 0 1010 ≡ 12) × (tallFrom 127 HALF 0 1009 ≡ 11)
   -- from -127 degrees at -254 half degrees: offsets of 63 lead above it, offsets of 0 nowhere
-  pub lowest-base : (newStep (tall (negsuc 126) 2) 0 (reading.Taken (negsuc 253)) ≡ 0) × (newStep (tall (negsuc 126) 1) 0 (reading.Taken (negsuc 253)) ≡ 0) × (newStep (tableFrom (negsuc 126) 2 (0 ∷ replicate 11 63) 0) 0 (reading.Taken (negsuc 253)) ≡ 1) × (newStep (tableFrom (negsuc 126) 2 (replicate 12 0) 0) 0 (reading.Taken (negsuc 253)) ≡ 12)
+  pub lowest-base : (newStep (tall (negsuc 126) DEGREE) 0 (T (negsuc 253)) ≡ 0) × (newStep (tall (negsuc 126) HALF) 0 (T (negsuc 253)) ≡ 0) × (newStep (tableFrom (negsuc 126) DEGREE (0 ∷ replicate 11 63) 0) 0 (T (negsuc 253)) ≡ 1) × (newStep (tableFrom (negsuc 126) DEGREE (replicate 12 0) 0) 0 (T (negsuc 253)) ≡ 12)
+  -- ---- document 02, Q-7, "Sixteenths of a degree"
+  -- U and T lines, what shows of them and what the fans do, from power-on: their bytes, and those that they print
+  pub sixteenths : printedFrom startSession 1 fineInput ≡ fineOutput
+  -- "T keeps half degrees": T of 70 is U of 560
+  pub same-temperature : T (pos 70) ≡ U (pos 560)
+  -- "-2032 to 2040", and "zones 1 to 5"
+  pub fine-range : (temperatureRefusal 1 (Sixteenths (negsuc 2031)) ≡ 0) × (temperatureRefusal 1 (Sixteenths (negsuc 2032)) ≡ 2) × (temperatureRefusal 5 (Sixteenths (pos 2040)) ≡ 0) × (temperatureRefusal 5 (Sixteenths (pos 2041)) ≡ 2) × (temperatureRefusal 6 (Sixteenths (pos 0)) ≡ 2) × (temperatureRefusal 1 (Halves (negsuc 253)) ≡ 0) × (temperatureRefusal 1 (Halves (negsuc 254)) ≡ 2) × (temperatureRefusal 1 (Halves (pos 255)) ≡ 0) × (temperatureRefusal 1 (Halves (pos 256)) ≡ 2)
+  -- "The half bit shows the reading rounded down to a half": the ends, and -17, -16, -9, -8, -1, 7, 8, 15 and 16 sixteenths
+  pub fine-shown : Shows (U (negsuc 16)) 0xFE true × Shows (U (negsuc 15)) 0xFF false × Shows (U (negsuc 8)) 0xFF false × Shows (U (negsuc 7)) 0xFF true × Shows (U (negsuc 0)) 0xFF true × Shows (U (pos 7)) 0x00 false × Shows (U (pos 8)) 0x00 true × Shows (U (pos 15)) 0x00 true × Shows (U (pos 16)) 0x01 false × Shows (U (negsuc 2031)) 0x81 false × Shows (U (pos 2039)) 0x7F false × Shows (U (pos 2040)) 0x7F true
+  -- "A bus write of the whole byte sets the fraction to 0", of FFh at the mirror too
+  pub fraction-cleared : zoneAt (threeAt 269 0x21 0xFF) 4 ≡ U (negsuc 15)
+  -- "of the half bit the rest to 0": 269 is half set, and 259 is not
+  pub rest-cleared : (zoneAt (threeAt 269 0x20 0x80) 4 ≡ U (pos 264)) × (zoneAt (threeAt 269 0x20 0x7F) 4 ≡ U (pos 256)) × (zoneAt (threeAt 259 0x20 0x7F) 4 ≡ U (pos 256))
+  -- "the tables and boosts compare them so": one sixteenth below a threshold and at it, up and with the hysteresis
+  pub fine-steps : (fineFrom 0 511 ≡ 0) × (fineFrom 0 512 ≡ 1) × (fineFrom 0 543 ≡ 1) × (fineFrom 0 544 ≡ 2) × (fineFrom 12 543 ≡ 2) × (fineFrom 12 544 ≡ 3)
+  -- at a boost and one sixteenth below, at boost minus hysteresis and one sixteenth below
+  pub fine-boosts : (boostAt (pos 40) (pos 640) false ≡ true) × (boostAt (pos 40) (pos 639) false ≡ false) × (boostAt (pos 40) (pos 592) true ≡ true) × (boostAt (pos 40) (pos 591) true ≡ false)
+  -- "the hotter of 1a and 1b" by one sixteenth
+  pub fine-hotter : hotterOf (U (pos 561)) (T (pos 70)) ≡ U (pos 561)
 
--- two facts that stand in no other crate
+-- facts that stand in no other crate
 fan-limit : fanLimitAt (fresh .registers) 0 ≡ 0x3FFF
 unfolding fanLimitAt fanLimit powerOn atRest defaultSetup defaults
 fan-limit = refl
@@ -179,23 +220,27 @@ limit : registerAt (tookReset (freshWith 0x9C 80)) 0x9C ≡ 80
 unfolding tookReset resetFile registerAt withRegister powerOn atRest defaultSetup defaults
 limit = refl
 
+ranges : (temperatureRefusal 1 (Sixteenths (negsuc 2031)) ≡ 0) × (temperatureRefusal 1 (Sixteenths (negsuc 2032)) ≡ 2) × (temperatureRefusal 5 (Sixteenths (pos 2040)) ≡ 0) × (temperatureRefusal 5 (Sixteenths (pos 2041)) ≡ 2) × (temperatureRefusal 6 (Sixteenths (pos 0)) ≡ 2) × (temperatureRefusal 1 (Halves (negsuc 253)) ≡ 0) × (temperatureRefusal 1 (Halves (negsuc 254)) ≡ 2) × (temperatureRefusal 1 (Halves (pos 255)) ≡ 0) × (temperatureRefusal 1 (Halves (pos 256)) ≡ 2)
+unfolding refusalOf eventIn indexIn statedIn readingWithin
+ranges = (refl, refl, refl, refl, refl, refl, refl, refl, refl)
+
 pub all : Cases
-unfolding sense.errorsAt sense.limited sense.errorsAgain sense.readTwice sense.bounded sense.sourced bus.written bus.zoneThree tookPin
+unfolding sense.errorsAt sense.limited sense.errorsAgain sense.readTwice sense.bounded sense.sourced bus.written bus.zoneThree tookPin statedReading
 all = record {
   lines = printed;
   events = session-answers;
-  minus-one = (temperature.cases .0, temperature.cases .1);
-  lowest = temperature.cases .2;
-  highest = (temperature.cases .4, temperature.cases .5);
+  minus-one = temperature.cases .0;
+  lowest = temperature.cases .1 .0;
+  highest = temperature.cases .2;
   eleven-none = sense.fed .1;
   eleven-one = sense.fed .0;
   channel-seven = (sense.channel-seven .0, sense.channel-seven .3, sense.channel-seven .1, sense.channel-seven .2);
   fan-unwatched = (fan-limit, sense.missing-fan .0);
   step-from-twelve = drive.steps .0;
   step-from-none = drive.steps .1;
-  missing-mark = temperature.cases .9;
+  missing-mark = temperature.byte-cases .5;
   half-cleared = bus.zone-writes .1;
-  signed = temperature.cases .12;
+  signed = temperature.order-cases .4;
   reset-keeps = sense.missing-fan .6;
   limit-kept = limit;
   latched = bus.latch .0;
@@ -225,4 +270,13 @@ all = record {
   tall-unreached = (drive.tallest .1, drive.tallest .2, drive.tallest .4, drive.tallest .5);
   tall-exact = (drive.tallest .6, drive.tallest .7, drive.tallest .8, drive.tallest .9);
   lowest-base = (drive.lowest .0, drive.lowest .6, drive.lowest .9, drive.lowest .10);
+  sixteenths = fine-printed;
+  same-temperature = temperature.order-cases .0;
+  fine-range = ranges;
+  fine-shown = temperature.fine-cases;
+  fraction-cleared = bus.zone-writes .2;
+  rest-cleared = (bus.zone-writes .4, bus.zone-writes .5, bus.zone-writes .6);
+  fine-steps = (drive.fine-steps .0, drive.fine-steps .1, drive.fine-steps .2, drive.fine-steps .3, drive.fine-steps .4, drive.fine-steps .5);
+  fine-boosts = (drive.fine-boosts .0, drive.fine-boosts .1, drive.fine-boosts .2, drive.fine-boosts .3);
+  fine-hotter = temperature.order-cases .1;
 }

@@ -18,6 +18,7 @@ use Rattle.map.specs.Bits.{isSet}
 use Rattle.map.specs.Names.{Z1BE, Z2BE, LUT1-Z1, LUT2-Z2, LUT3-Z1, LUT4-Z2}
 use Rattle.temperature.specs.declared.Reading.{Reading}
 use Rattle.temperature.specs.declared.Reading.the-variants.{Taken, Missing}
+use Rattle.temperature.specs.Temperature.{DEGREE}
 use Rattle.temperature.specs.Order.{NoHotter, missing, taken, hotter-mono}
 use Rattle.state.specs.declared.Zone.{Zone}
 use Rattle.state.specs.declared.Boost.{Boost}
@@ -43,7 +44,7 @@ module _ (t : Table) where
   unfolding notAbove thresholdReached isReached
   not-above-mono x y p =
       count-mono (thresholdReached t x) (thresholdReached t y)
-      (λ k q. leZ-trans (pos 2 *ℤ t .base +ℤ pos (t .unit * sumTo (t .offsets) (suc k))) x y q p) 12
+      (λ k q. leZ-trans (t .base *ℤ pos DEGREE +ℤ pos (t .unit * sumTo (t .offsets) (suc k))) x y q p) 12
 
   -- a reading plus the hysteresis
   abbrev pub warmer : ℤ → ℤ
@@ -116,10 +117,10 @@ unfolding isLatched
 latch-mono b n x y v w p k = go (leZ on x) (leZ on y) (ltZ x off) (ltZ y off) (λ t. leZ-trans on x y t p) (le-lt x y off p)
   where
     on : ℤ
-    on = pos 2 *ℤ b
+    on = b *ℤ pos DEGREE
 
     off : ℤ
-    off = pos 2 *ℤ b -ℤ pos (2 * n)
+    off = b *ℤ pos DEGREE -ℤ pos (n * DEGREE)
 
     go : (s t e f : Bool) → (T s → T t) → (T f → T e) → T (pick s true (pick e false v)) → T (pick t true (pick f false w))
     go s true e f i j h = tt

@@ -12,6 +12,7 @@ use Rattle.laws.specs.Count.{countTo, count-le, count-passed, count-failed}
 use Rattle.laws.specs.Order.{leZ-trans, leZ-more, leZ-rise}
 use Rattle.temperature.specs.declared.Reading.{Reading}
 use Rattle.temperature.specs.declared.Reading.the-variants.{Taken, Missing}
+use Rattle.temperature.specs.Temperature.{DEGREE}
 use Rattle.drive.specs.declared.Look.{Look}
 use Rattle.drive.specs.declared.Searched.{Searched}
 use Rattle.drive.specs.Tables.{Table, sumTo, isReached, thresholdReached, notAbove, newStep}
@@ -47,7 +48,7 @@ module _ (t : Table) where
   -- thresholds never fall: one that is not above the reading comes after others that are not
   reached-before : (h : ℤ) (k : ℕ) → T (thresholdReached t h (suc k)) → T (thresholdReached t h k)
   unfolding thresholdReached isReached sumTo
-  reached-before h k = leZ-trans (pos 2 *ℤ t .base +ℤ pos (t .unit * sumTo (t .offsets) (suc k))) (pos 2 *ℤ t .base +ℤ pos (t .unit * sumTo (t .offsets) (suc (suc k)))) h (leZ-more (pos 2 *ℤ t .base) _ _ (mul-le-mul {n₁ = t .unit} (omega arith) (omega arith)))
+  reached-before h k = leZ-trans (t .base *ℤ pos DEGREE +ℤ pos (t .unit * sumTo (t .offsets) (suc k))) (t .base *ℤ pos DEGREE +ℤ pos (t .unit * sumTo (t .offsets) (suc (suc k)))) h (leZ-more (t .base *ℤ pos DEGREE) _ _ (mul-le-mul {n₁ = t .unit} (omega arith) (omega arith)))
 
   module _ (old : ℕ) where
     -- where it starts

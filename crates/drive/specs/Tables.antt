@@ -1,5 +1,5 @@
 -- Document 01, "Fan duties", 1: tables. Tables and zones count from 0, zones in the order 1a, 1b, 2a, 2b, 3, 4. Temperatures are signed
--- counts of half degrees. Assumes nothing.
+-- counts of sixteenths of a degree; document 02, Q-7: "the tables and boosts compare them so". Assumes nothing.
 use mathlib.Core.Bool.{Bool}
 use mathlib.Core.List.{List}
 use Prim.Native.Nat.{ℕ, zero, suc, _+_, _*_, min}
@@ -13,7 +13,7 @@ use Rattle.map.specs.Bits.{isSet}
 use Rattle.map.specs.Names.{Z1BE, Z2BE, LUT1-Z1, LUT2-Z2, LUT3-Z1, LUT4-Z2, LT12-RS, LT34-RS}
 use Rattle.temperature.specs.declared.Reading.{Reading}
 use Rattle.temperature.specs.declared.Reading.the-variants.{Taken, Missing}
-use Rattle.temperature.specs.Temperature.{hotterOf}
+use Rattle.temperature.specs.Temperature.{HALF, DEGREE, hotterOf}
 use Rattle.state.specs.declared.Zone.{Zone}
 use Rattle.state.specs.declared.Setup.{Setup}
 use Rattle.state.specs.Parts.{noZone}
@@ -44,7 +44,7 @@ followedZone zones source bindings table =
 
 -- ---- a table's setup
 
--- base in degrees, how many half degrees a count of its offsets and hysteresis is, and those counts
+-- base in degrees, how many sixteenths a count of its offsets and hysteresis is, and those counts
 pub record Table : Type 0 where
   pub base : ℤ
   pub unit : ℕ
@@ -55,9 +55,9 @@ pub record Table : Type 0 where
 abbrev pub tableFrom : ℤ → ℕ → List ℕ → ℕ → Table
 tableFrom base unit offsets hysteresis = record { base = base; unit = unit; offsets = offsets; hysteresis = hysteresis }
 
--- "both count in degrees, or half degrees if LT12_RS or LT34_RS is set": how many half degrees a count is
+-- "both count in degrees, or half degrees if LT12_RS or LT34_RS is set": how many sixteenths a count is
 unfoldable pub unitOf : Bool → ℕ
-unitOf halves = pick halves 1 2
+unitOf halves = pick halves HALF DEGREE
 
 -- "Tables 1 and 2 share offsets and hysteresis, 3 and 4 share theirs"; control is BDh
 unfoldable pub tableOf : Setup → ℕ → ℕ → Table
@@ -75,15 +75,15 @@ sumTo offsets (suc k) = sumTo offsets k + getD offsets k 0
 
 -- a threshold, that many counts above the base, is not above the reading
 unfoldable pub isReached : ℤ → ℕ → ℕ → ℤ → Bool
-isReached base unit counts h = leZ (pos 2 *ℤ base +ℤ pos (unit * counts)) h
+isReached base unit counts n = leZ (base *ℤ pos DEGREE +ℤ pos (unit * counts)) n
 
 -- "Threshold k (1 to 12) is base plus the first k offsets." Threshold k + 1 is not above the reading
 unfoldable pub thresholdReached : Table → ℤ → ℕ → Bool
-thresholdReached t h k = isReached (t .base) (t .unit) (sumTo (t .offsets) (suc k)) h
+thresholdReached t n k = isReached (t .base) (t .unit) (sumTo (t .offsets) (suc k)) n
 
 -- "the number of thresholds not above the reading"
 unfoldable pub notAbove : Table → ℤ → ℕ
-notAbove t h = countTo (thresholdReached t h) 12
+notAbove t n = countTo (thresholdReached t n) 12
 
 -- "but if the old step is higher, it is the lower of the old step and" later
 unfoldable pub settled : ℕ → ℕ → ℕ → ℕ
@@ -93,9 +93,9 @@ settled old now later = pick (ltb now old) (min old later) now
 -- number of thresholds not above reading plus hysteresis." "Missing: step 12"
 unfoldable pub newStep : Table → ℕ → Reading → ℕ
 newStep t old Missing = 12
-newStep t old (Taken h) = settled old (notAbove t h) (notAbove t (h +ℤ pos (t .unit * t .hysteresis)))
+newStep t old (Taken n) = settled old (notAbove t n) (notAbove t (n +ℤ pos (t .unit * t .hysteresis)))
 
 -- "The table asks for the duty of its step. Missing: step 12 and 256."
 unfoldable pub askedDuty : List ℕ → ℕ → Reading → ℕ
 askedDuty duties step Missing = 256
-askedDuty duties step (Taken h) = getD duties step 0
+askedDuty duties step (Taken n) = getD duties step 0

@@ -30,7 +30,7 @@ use Rattle.drive.specs.Duties.{fanDuty, kickedFan}
 unfoldable pub followed : Chip → ℕ → Reading
 followed c table = followedZone (c .zones) (registerAt c TEMPERATURE-SOURCE-SELECT) (registerAt c FAN-CONTROL-BINDINGS) table
 
--- how many half degrees a count of offsets or hysteresis is, by a bit of BDh
+-- how many sixteenths a count of offsets or hysteresis is, by a bit of BDh
 abbrev pub unitBy : Chip → ℕ → ℕ
 unitBy c bit = unitOf (isSet (registerAt c SPECIAL-FUNCTION-CONTROL-2) bit)
 

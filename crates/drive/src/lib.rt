@@ -18,6 +18,8 @@ use state::Override;
 use state::Ramp;
 use state::Setup;
 use state::Zone;
+use temperature::DEGREE;
+use temperature::HALF;
 use temperature::Reading;
 
 // The largest duty, 100 %.
@@ -114,18 +116,18 @@ pub fn followed_zone(zones: [Zone; 6], source: u8, bindings: u8, table: u8) -> R
     }
 }
 
-// How many half degrees a count is.
+// How many sixteenths a count is.
 fn unit_of(halves: bool) -> u8
     ensures { λ r. ⌜ r ≡ unitOf halves ⌝ }
 {
-    if halves { 1 } else { 2 }
+    if halves { HALF as u8 } else { DEGREE as u8 }
 }
 
 // Whether a threshold, as many counts above the base as the sum says, is not above the reading.
 fn is_reached(base: i8, unit: u8, sum: u32, reading: i64) -> bool
     ensures { λ r. ⌜ r ≡ isReached base unit sum reading ⌝ }
 {
-    let threshold = 2 * (base as i64) + (unit as i64) * (sum as i64);
+    let threshold = (base as i64) * (DEGREE as i64) + (unit as i64) * (sum as i64);
     threshold <= reading
 }
 
@@ -193,10 +195,10 @@ fn look_down(base: i8, unit: u8, offsets: &[u8; 12], stayed: Look, held: i64) ->
 }
 
 // The search at a taken reading. An old step above 12 is taken as 12, where the look upward ends.
-fn search_taken(base: i8, unit: u8, hysteresis: u8, offsets: &[u8; 12], old: u8, h: i16) -> Searched
-    ensures { λ r. ⌜ r ≡ searched (tableFrom base unit (now (offsets .entry)) hysteresis) old (Taken h) ⌝ }
+fn search_taken(base: i8, unit: u8, hysteresis: u8, offsets: &[u8; 12], old: u8, n: i16) -> Searched
+    ensures { λ r. ⌜ r ≡ searched (tableFrom base unit (now (offsets .entry)) hysteresis) old (Taken n) ⌝ }
 {
-    let reading = h as i64;
+    let reading = n as i64;
     let held = reading + (unit as i64) * (hysteresis as i64);
     let up = look_up(base, unit, offsets, old, reading);
     if up.step <= old as usize {
@@ -208,8 +210,8 @@ fn search_taken(base: i8, unit: u8, hysteresis: u8, offsets: &[u8; 12], old: u8,
     }
 }
 
-// A table's new step, and how many thresholds the search for it compared. The base is in degrees, the unit says how many half degrees a
-// count of offsets and hysteresis is.
+// A table's new step, and how many thresholds the search for it compared. The base is in degrees, the unit says how many sixteenths a count
+// of offsets and hysteresis is.
 pub fn new_step(
     base: i8,
     unit: u8,
@@ -220,13 +222,13 @@ pub fn new_step(
 ) -> Searched
     ensures { λ r. ⌜ r ≡ searched (tableFrom base unit (now (offsets .entry)) hysteresis) old reading ⌝ }
 {
-    let Reading::Taken(h) = reading else {
+    let Reading::Taken(n) = reading else {
         return Searched {
             step: 12,
             compared: 0,
         };
     };
-    search_taken(base, unit, hysteresis, offsets, old, h)
+    search_taken(base, unit, hysteresis, offsets, old, n)
 }
 
 // The step by itself, which is all that a tick asks of the search.
@@ -255,16 +257,15 @@ pub fn asked_duty(duties: [u16; 13], step: u8, reading: Reading) -> u16
     if k < 13 { duties[k] } else { 0 }
 }
 
-// Boost and hysteresis are in degrees, h in half degrees.
-fn is_latched(boost: i8, hysteresis: u8, h: i16, was: bool) -> bool
-    ensures { λ r. ⌜ r ≡ isLatched boost hysteresis h was ⌝ }
+// Boost and hysteresis are in degrees, n in sixteenths.
+fn is_latched(boost: i8, hysteresis: u8, n: i16, was: bool) -> bool
+    ensures { λ r. ⌜ r ≡ isLatched boost hysteresis n was ⌝ }
 {
-    let on = 2 * (boost as i32);
-    let off = on - 2 * (hysteresis as i32);
-    let x = h as i32;
-    if on <= x {
+    let on = (boost as i16) * DEGREE;
+    let off = on - (hysteresis as i16) * DEGREE;
+    if on <= n {
         true
-    } else if x < off {
+    } else if n < off {
         false
     } else {
         was
@@ -279,10 +280,10 @@ pub fn is_boosted(enabled: bool, boost: Boost, hysteresis: u8, reading: Reading,
         let Boost::At(b) = boost else {
             return false;
         };
-        let Reading::Taken(h) = reading else {
+        let Reading::Taken(n) = reading else {
             return true;
         };
-        is_latched(b, hysteresis, h, was)
+        is_latched(b, hysteresis, n, was)
     } else {
         false
     }
@@ -430,7 +431,7 @@ fn loaded_start(was: u16, duty: u16, start: u8, start_count: u8) -> u8
 
 // ---- one tick
 
-// How many half degrees a count of an offset or hysteresis is, by a bit of BDh.
+// How many sixteenths a count of an offset or hysteresis is, by a bit of BDh.
 fn unit_by(file: &[u8; 256], bit: u8) -> u8
     ensures { λ r. ⌜ r ≡ unitBy (ofRegisters (now (file .entry))) bit ⌝ }
 {

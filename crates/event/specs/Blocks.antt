@@ -31,7 +31,7 @@ use Rattle.event.specs.Refusal.{in-number, taken-in, step-taken, taken-n
 -- one that is taken
 taken-alone : (c : Chip) (e : Event) (bytes : List ℕ) → ((address command : ℕ) → e ≡ WriteBlock address command → ⊥) → takenStep c e bytes ≡ takenStep c e []
 unfolding takenStep
-taken-alone c (Temperature zone r) bytes n = refl
+taken-alone c (Temperature zone s) bytes n = refl
 taken-alone c (Voltage channel m) bytes n = refl
 taken-alone c (Fan fan m) bytes n = refl
 taken-alone c (Hot input level) bytes n = refl

@@ -1,18 +1,19 @@
 -- Document 01, "Events", with the refusal of "Lines and refusals" for numbers out of range, and document 02, Q-1, which adds block reads and
--- block writes: one event, by cases. The bytes of a block write stand beside the event; no other event looks at any,
+-- block writes, and Q-7, which adds U: one event, by cases. The bytes of a block write stand beside the event; no other event looks at any,
 -- but more than 32 are refused beside any event. Assumes nothing.
 use mathlib.Core.Bool.{Bool, true, false}
 use mathlib.Core.List.{List}
 use Prim.Native.Nat.{ℕ, _-_, _%_}
 use lib.Dec.{eqb, leb}
-use lib.IntN.{pos, negsuc}
+use lib.IntN.{ℤ, pos, negsuc}
 use lib.ListN.{length, getD}
 use lib.Signed.{leZ}
 use Rattle.laws.specs.Pick.{pick, both}
 use Rattle.map.specs.declared.Block.{Block}
 use Rattle.map.specs.declared.Block.the-variants.{Unlisted, Fixed}
-use Rattle.temperature.specs.declared.Reading.{Reading}
-use Rattle.temperature.specs.declared.Reading.the-variants as reading
+use Rattle.temperature.specs.declared.Stated.{Stated}
+use Rattle.temperature.specs.declared.Stated.the-variants as stated
+use Rattle.temperature.specs.Temperature.{statedReading}
 use Rattle.state.specs.declared.Chip.{Chip}
 use Rattle.state.specs.declared.Count.{Count}
 use Rattle.state.specs.declared.Count.the-variants.{Taken, Missing}
@@ -35,10 +36,16 @@ use Rattle.event.specs.declared.Stepped.{Stepped}
 unfoldable pub indexIn : ℕ → ℕ → Bool
 indexIn most n = both (leb 1 n) (leb n most)
 
--- "a signed count of half degrees, -254 to 255, or missing"
-unfoldable pub readingIn : Reading → Bool
-readingIn reading.Missing = true
-readingIn (reading.Taken h) = both (leZ (negsuc 253) h) (leZ h (pos 255))
+-- a signed count from least to most
+unfoldable pub readingWithin : ℤ → ℤ → ℤ → Bool
+readingWithin least most n = both (leZ least n) (leZ n most)
+
+-- T: "a signed count of half degrees, -254 to 255, or missing"; 02, Q-7: "in sixteenths, -2032 to 2040", "U carries sixteenths .., under T's
+-- conditions"
+unfoldable pub statedIn : Stated → Bool
+statedIn stated.Missing = true
+statedIn (stated.Halves h) = readingWithin (negsuc 253) (pos 255) h
+statedIn (stated.Sixteenths n) = readingWithin (negsuc 2031) (pos 2040) n
 
 -- "0 to 255, or missing", "0 to 16383, or missing"
 unfoldable pub countIn : ℕ → Count → Bool
@@ -56,8 +63,8 @@ levelOf Missing = 0
 levelOf (Taken n) = n % 256
 
 -- the numbers of each event
-abbrev pub temperatureIn : ℕ → Reading → Bool
-temperatureIn zone r = both (indexIn 5 zone) (readingIn r)
+abbrev pub temperatureIn : ℕ → Stated → Bool
+temperatureIn zone s = both (indexIn 5 zone) (statedIn s)
 
 abbrev pub voltageIn : ℕ → Count → Bool
 voltageIn channel n = both (indexIn 16 channel) (countIn 255 n)
@@ -73,7 +80,7 @@ abbrev pub addressIn : ℕ → Bool
 addressIn address = leb address 0x7F
 
 unfoldable pub eventIn : Event → Bool
-eventIn (Temperature zone r) = temperatureIn zone r
+eventIn (Temperature zone s) = temperatureIn zone s
 eventIn (Voltage channel n) = voltageIn channel n
 eventIn (Fan fan n) = fanIn fan n
 eventIn (Hot input level) = hotIn input level
@@ -142,7 +149,7 @@ writtenBlockAnswer w = record { chip = w .chip; answer = BlockWritten (w .ack) }
 
 -- that is not refused; of K the missing marks come first, then the fans
 unfoldable pub takenStep : Chip → Event → List ℕ → Stepped
-takenStep c (Temperature zone r) bytes = quietStep (tookTemperature c (zone - 1) r)
+takenStep c (Temperature zone s) bytes = quietStep (tookTemperature c (zone - 1) (statedReading s))
 takenStep c (Voltage channel n) bytes = quietStep (tookVoltage c (channel - 1) n)
 takenStep c (Fan fan n) bytes = quietStep (tookFan c (fan - 1) n)
 takenStep c (Hot input level) bytes = quietStep (tookHot c (input - 1) (eqb (levelOf level) 1))

@@ -27,7 +27,7 @@ use Rattle.event.specs.SameShape.{SameShape, shape-self, missed-shape, e
 -- what a chip of the same shape has, and what a tick leaves, any event leaves: a refused one too
 by-tick : (c : Chip) (P : Chip → Type 0) → ((d : Chip) → SameShape c d → P d) → P (tickedChip (missed c) .chip) → (e : Event) (bytes : List ℕ) → P (steppedChip c e bytes .chip)
 unfolding takenStep tickAnswer
-by-tick c P f t (Temperature zone r) bytes = f _ (event-shape c _ bytes (λ q. never (cc)))
+by-tick c P f t (Temperature zone s) bytes = f _ (event-shape c _ bytes (λ q. never (cc)))
 by-tick c P f t (Voltage channel n) bytes = f _ (event-shape c _ bytes (λ q. never (cc)))
 by-tick c P f t (Fan fan n) bytes = f _ (event-shape c _ bytes (λ q. never (cc)))
 by-tick c P f t (Hot input level) bytes = f _ (event-shape c _ bytes (λ q. never (cc)))

@@ -1,4 +1,5 @@
 pub mod Event
+pub mod Stated
 pub mod Run
 pub mod Session
 pub mod Refusal

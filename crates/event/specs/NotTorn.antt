@@ -10,6 +10,7 @@ use Rattle.state.specs.declared.FanKept.{FanKept}
 use Rattle.state.specs.declared.KeptByte.the-variants.{None, High}
 use Rattle.state.specs.Parts.{noKept, fanAt, keptAt}
 use Rattle.sense.specs.Missing.{missed}
+use Rattle.temperature.specs.Temperature.{statedReading}
 use Rattle.sense.specs.Keeps.{temperature-keeps, voltage-keeps, fan-keeps, hot-keeps, pin-keeps, reset-keeps, missed-keeps}
 use Rattle.bus.specs.Latch.{transacted}
 use Rattle.bus.specs.Read.{lowByte, highByte, givenByte}
@@ -37,7 +38,7 @@ pub data ReadOrNot : Event → Type 0 where
 -- "X leaves it", "Block reads .. neither keep nor drop one": T, V, F, H, A, K, X, W, G and P leave all four
 pub read-or-not : (e : Event) → ReadOrNot e
 unfolding takenStep quietStep tickAnswer writtenAnswer seenBlockAnswer writtenBlockAnswer
-read-or-not (Temperature zone r) = other (λ c bytes. temperature-keeps c (zone - 1) r .kept)
+read-or-not (Temperature zone s) = other (λ c bytes. temperature-keeps c (zone - 1) (statedReading s) .kept)
 read-or-not (Voltage channel n) = other (λ c bytes. voltage-keeps c (channel - 1) n .kept)
 read-or-not (Fan fan n) = other (λ c bytes. fan-keeps c (fan - 1) n .kept)
 read-or-not (Hot input level) = other (λ c bytes. hot-keeps c (input - 1) _ .kept)

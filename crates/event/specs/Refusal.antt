@@ -60,7 +60,7 @@ module _ (e : Event) (bytes : List ℕ) where
 -- an event that is taken answers no refusal
 taken-answers : (c : Chip) (e : Event) (bytes : List ℕ) (n : ℕ) → takenStep c e bytes .answer ≡ Refused n → ⊥
 unfolding takenStep quietStep tickAnswer writtenAnswer readAnswer seenAnswer seenBlockAnswer blockAnswer writtenBlockAnswer
-taken-answers c (Temperature zone r) bytes n e = never (cc)
+taken-answers c (Temperature zone s) bytes n e = never (cc)
 taken-answers c (Voltage channel m) bytes n e = never (cc)
 taken-answers c (Fan fan m) bytes n e = never (cc)
 taken-answers c (Hot input level) bytes n e = never (cc)

@@ -229,7 +229,7 @@ module _ (c : Chip) where
 
   taken-shape : (e : Event) (bytes : List ℕ) → (e ≡ Tick → ⊥) → SameShape c (takenStep c e bytes .chip)
   unfolding takenStep quietStep writtenAnswer readAnswer seenBlockAnswer writtenBlockAnswer
-  taken-shape (Temperature zone r) bytes h = temperature-shape (zone - 1) r
+  taken-shape (Temperature zone s) bytes h = temperature-shape (zone - 1) _
   taken-shape (Voltage channel n) bytes h = voltage-shape (channel - 1) n
   taken-shape (Fan fan n) bytes h = fan-shape (fan - 1) n
   taken-shape (Hot input level) bytes h = hot-shape (input - 1) _

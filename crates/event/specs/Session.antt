@@ -14,7 +14,8 @@ use Rattle.map.specs.Kind.{kindOf}
 use Rattle.map.specs.FanBytes.{byteOfKind, fanByteAt}
 use Rattle.map.specs.Slave.{slaveAddress}
 use Rattle.temperature.specs.declared.Reading.the-variants as reading
-use Rattle.temperature.specs.Temperature.{byteOf, wholeOf, wholeByte, hotterOf}
+use Rattle.temperature.specs.declared.Stated.the-variants.{Halves}
+use Rattle.temperature.specs.Temperature.{statedReading, byteOf, wholeOf, wholeByte, hotterOf}
 use Rattle.state.specs.declared.Chip.{Chip}
 use Rattle.state.specs.declared.Ramp.{Ramp}
 use Rattle.state.specs.declared.Latch.the-variants.{Held}
@@ -40,7 +41,7 @@ use Rattle.event.specs.declared.Event.{Event}
 use Rattle.event.specs.declared.Event.the-variants.{Temperature, Hot, Tick, Write, Read}
 use Rattle.event.specs.declared.Answer.{Answer}
 use Rattle.event.specs.declared.Answer.the-variants.{Nothing, Refused, Acknowledged, Byte, NoByte, Ticked}
-use Rattle.event.specs.Event.{indexIn, readingIn, levelIn, levelOf, quietStep, refusedStep, eventIn, refusalOf, tickAnswer, writtenAnswer, seenAnswer, readAnswer, takenStep, steppedChip}
+use Rattle.event.specs.Event.{indexIn, readingWithin, statedIn, levelIn, levelOf, quietStep, refusedStep, eventIn, refusalOf, tickAnswer, writtenAnswer, seenAnswer, readAnswer, takenStep, steppedChip}
 use Rattle.event.specs.Run.{Given, alone, answersTo}
 use Rattle.event.specs.Ticking.{tickFrom, tick-by-parts}
 
@@ -48,7 +49,7 @@ use Rattle.event.specs.Ticking.{tickFrom, tick-by-parts}
 unfoldable pub session : List Given
 session =
     map alone
-    (Tick ∷ Temperature 1 (reading.Taken (pos 70)) ∷ Temperature 5 (reading.Taken (pos 66)) ∷ Tick ∷ Write 0x2C 0xBF 0x01 ∷ Hot 1 (Taken 1) ∷ Tick ∷ Write 0x2C 0xB5 0x80 ∷ Tick ∷ Read 0x2C 0x52 ∷ Read 0x2D 0x52 ∷ Temperature 6 (reading.Taken (pos 10)) ∷ [])
+    (Tick ∷ Temperature 1 (Halves (pos 70)) ∷ Temperature 5 (Halves (pos 66)) ∷ Tick ∷ Write 0x2C 0xBF 0x01 ∷ Hot 1 (Taken 1) ∷ Tick ∷ Write 0x2C 0xB5 0x80 ∷ Tick ∷ Read 0x2C 0x52 ∷ Read 0x2D 0x52 ∷ Temperature 6 (Halves (pos 10)) ∷ [])
 
 unfoldable pub answers : List Answer
 answers =
@@ -105,11 +106,11 @@ chip1 = withDrive fresh (driven1 .drive)
 
 -- after T 1 70
 abbrev chip2 : Chip
-chip2 = withZone chip1 0 (reading.Taken (pos 70))
+chip2 = withZone chip1 0 (reading.Taken (pos 560))
 
 -- after T 5 66
 abbrev chip3 : Chip
-chip3 = withZone chip2 4 (reading.Taken (pos 66))
+chip3 = withZone chip2 4 (reading.Taken (pos 528))
 
 -- after K
 abbrev chip4 : Chip
@@ -156,8 +157,8 @@ all-answered done = refl
 all-answered (next {a = a} g h) = rw (g .step) (ap (λ (xs : List Answer). a ∷ xs) (all-answered h))
 
 -- T 1 70, T 5 66, and T 6 10, which is refused
-temperatures : Answered chip1 (Temperature 1 (reading.Taken (pos 70))) Nothing chip2 × Answered chip2 (Temperature 5 (reading.Taken (pos 66))) Nothing chip3 × Answered chip10 (Temperature 6 (reading.Taken (pos 10))) (Refused 2) chip10
-unfolding steppedChip refusalOf eventIn indexIn readingIn takenStep quietStep refusedStep tookTemperature zoneHeard zoneThreeFed isSet registerAt withZone powerOn defaults
+temperatures : Answered chip1 (Temperature 1 (Halves (pos 70))) Nothing chip2 × Answered chip2 (Temperature 5 (Halves (pos 66))) Nothing chip3 × Answered chip10 (Temperature 6 (Halves (pos 10))) (Refused 2) chip10
+unfolding steppedChip refusalOf eventIn indexIn statedIn readingWithin statedReading takenStep quietStep refusedStep tookTemperature zoneHeard zoneThreeFed isSet registerAt withZone powerOn defaults
 temperatures = (record { step = refl }, record { step = refl }, record { step = refl })
 
 -- W 2C BF 01, W 2C B5 80

@@ -1,8 +1,10 @@
-// The events of the chip: each is taken, or refused by its number (document 01, "Events" and "Lines and refusals"; document 02, Q-1).
+// The events of the chip: each is taken, or refused by its number (document 01, "Events" and "Lines and refusals"; document 02, Q-1 and Q-7).
 ghost use mathlib.Core.Path.{_≡_};
+ghost use mathlib.Core.Bool.{true};
 ghost use lib.Dec.{eqb};
 ghost use lib.ListN.{length};
-ghost use Rattle.event.specs.Event.{indexIn, readingIn, countIn, levelIn, levelOf, temperatureIn, voltageIn, fanIn, hotIn, addressIn, eventIn, refusalOf, steppedChip};
+ghost use Rattle.event.specs.Event.{indexIn, readingWithin, statedIn, countIn, levelIn, levelOf, temperatureIn, voltageIn, fanIn, hotIn, addressIn, eventIn, refusalOf, steppedChip};
+ghost use Rattle.temperature.specs.Temperature.{statedReading};
 ghost use Rattle.bus.specs.Dump.{dumpAnswer, dumpedInto};
 ghost use Rattle.bus.specs.Block.{blockBytes};
 use bus::Change;
@@ -13,12 +15,14 @@ use state::Chip;
 use state::Count;
 use state::Gauge;
 use state::Zone;
+use temperature::HALF;
 use temperature::Reading;
+use temperature::Stated;
 
 // An event, with the numbers as they came in. The bytes of a block write are lent beside it, and their count is how many are lent.
 pub enum Event {
-    // T: zone 1 to 5, and its reading.
-    Temperature { zone: u8, reading: Reading },
+    // T and U: zone 1 to 5, and the temperature in half degrees or in sixteenths.
+    Temperature { zone: u8, stated: Stated },
     // V: channel 1 to 16, and its count.
     Voltage { channel: u8, count: Count },
     // F: fan 1 to 4, and its count.
@@ -82,6 +86,15 @@ const BYTES_TOO_MANY: u8 = 4;
 // The longest block.
 pub const BLOCK_MOST: usize = 32;
 
+// The ranges of T and of U.
+const HALVES_LEAST: i16 = -254;
+
+const HALVES_MOST: i16 = 255;
+
+const SIXTEENTHS_LEAST: i16 = -2032;
+
+const SIXTEENTHS_MOST: i16 = 2040;
+
 // The largest slave address, of seven bits.
 const ADDRESS_TOP: u8 = 0x7F;
 
@@ -97,16 +110,24 @@ fn index_in(most: u8, n: u8) -> bool
     false
 }
 
-fn reading_in(reading: Reading) -> bool
-    ensures { λ r. ⌜ r ≡ readingIn reading ⌝ }
+// A signed number from least to most.
+fn reading_within(least: i16, most: i16, n: i16) -> bool
+    ensures { λ r. ⌜ r ≡ readingWithin least most n ⌝ }
 {
-    let Reading::Taken(h) = reading else {
-        return true;
-    };
-    if -254 <= h {
-        return h <= 255;
+    if least <= n {
+        return n <= most;
     }
     false
+}
+
+fn stated_in(stated: Stated) -> bool
+    ensures { λ r. ⌜ r ≡ statedIn stated ⌝ }
+{
+    match stated {
+        Stated::Missing => true,
+        Stated::Halves(h) => reading_within(HALVES_LEAST, HALVES_MOST, h),
+        Stated::Sixteenths(n) => reading_within(SIXTEENTHS_LEAST, SIXTEENTHS_MOST, n),
+    }
 }
 
 // A count up to most, or missing.
@@ -129,11 +150,11 @@ fn level_in(most: u16, level: Count) -> bool
     n <= most
 }
 
-fn temperature_in(zone: u8, reading: Reading) -> bool
-    ensures { λ r. ⌜ r ≡ temperatureIn zone reading ⌝ }
+fn temperature_in(zone: u8, stated: Stated) -> bool
+    ensures { λ r. ⌜ r ≡ temperatureIn zone stated ⌝ }
 {
     if index_in(5, zone) {
-        return reading_in(reading);
+        return stated_in(stated);
     }
     false
 }
@@ -175,7 +196,7 @@ fn event_in(event: Event) -> bool
     ensures { λ r. ⌜ r ≡ eventIn event ⌝ }
 {
     match event {
-        Event::Temperature { zone, reading } => temperature_in(zone, reading),
+        Event::Temperature { zone, stated } => temperature_in(zone, stated),
         Event::Voltage { channel, count } => voltage_in(channel, count),
         Event::Fan { fan, count } => fan_in(fan, count),
         Event::Hot { input, level } => hot_in(input, level),
@@ -227,6 +248,18 @@ fn is_taken(event: Event, bytes: &[u8]) -> bool
 
 // ---- the events
 
+// The reading that a temperature states; in range, half degrees fit as sixteenths.
+fn stated_reading(stated: Stated) -> Reading
+    requires { ⌜ statedIn stated ≡ true ⌝ }
+    ensures { λ r. ⌜ r ≡ statedReading stated ⌝ }
+{
+    match stated {
+        Stated::Missing => Reading::Missing,
+        Stated::Halves(h) => Reading::Taken(h * HALF),
+        Stated::Sixteenths(n) => Reading::Taken(n),
+    }
+}
+
 // A level as a number; 0 where it is missing.
 fn level_of(level: Count) -> u8
     ensures { λ r. ⌜ r ≡ levelOf level ⌝ }
@@ -246,11 +279,13 @@ pub fn step(chip: Chip, event: Event, bytes: &[u8]) -> Stepped
     let mut answer = Answer::Nothing;
     if is_taken(event, bytes) {
         match event {
-            Event::Temperature { zone, reading } => {
+            Event::Temperature { zone, stated } => {
                 let at = zone - 1;
                 let source = next.registers[registers::TEMPERATURE_SOURCE_SELECT as usize];
                 if sense::hears_zone(source, at) {
-                    let z = Zone { reading: reading };
+                    let z = Zone {
+                        reading: stated_reading(stated),
+                    };
                     next.zones[at as usize] = z;
                 }
             }

@@ -1,5 +1,6 @@
 // Gives each line to a session that is lent to the port and to one that goes by value, and what the line says to a chip that is lent to the
-// port. Prints what the line prints, `differs` where the three do not agree, and at the end the register dump of the lent session.
+// port. Prints what the line prints, `differs` where the three do not agree, and at the end the register dump of the lent session and its
+// zones' readings.
 use event::Answer;
 use event::BLOCK_MOST;
 use event::Tick;
@@ -12,6 +13,8 @@ use state::Chip;
 use state::FanKept;
 use state::KeptByte;
 use state::Setup;
+use state::Zone;
+use temperature::Reading;
 use text::BLOCK_ROOM;
 use text::ROOM;
 
@@ -77,8 +80,38 @@ fn same_erring(a: [bool; 16], b: [bool; 16]) -> bool {
     true
 }
 
-// The dump of the one is the port's, of the other the one by value. A dump shows neither the kept bytes nor which channels are in error, so
-// they are compared beside it.
+fn same_reading(a: Reading, b: Reading) -> bool {
+    match a {
+        Reading::Missing => {
+            let Reading::Missing = b else {
+                return false;
+            };
+            true
+        }
+        Reading::Taken(n) => {
+            let Reading::Taken(m) = b else {
+                return false;
+            };
+            n == m
+        }
+    }
+}
+
+fn same_zone(a: [Zone; 6], b: [Zone; 6], zone: u8) -> bool {
+    same_reading(state::zone_at(a, zone), state::zone_at(b, zone))
+}
+
+fn same_zones(a: [Zone; 6], b: [Zone; 6]) -> bool {
+    same_zone(a, b, 0)
+        && same_zone(a, b, 1)
+        && same_zone(a, b, 2)
+        && same_zone(a, b, 3)
+        && same_zone(a, b, 4)
+        && same_zone(a, b, 5)
+}
+
+// The dump of the one is the port's, of the other the one by value. A dump shows neither the kept bytes, nor which channels are in error, nor
+// what a reading has below the half degree, so they are compared beside it.
 fn same_chip(held: Chip, moved: Chip) -> bool {
     let mut a = [0u8; REGISTERS];
     let mut b = [0u8; REGISTERS];
@@ -88,7 +121,10 @@ fn same_chip(held: Chip, moved: Chip) -> bool {
     let moved_kept = moved.kept;
     let held_erring = held.erring;
     let moved_erring = moved.erring;
+    let held_zones = held.zones;
+    let moved_zones = moved.zones;
     check::same(&a, &b)
+        && same_zones(held_zones, moved_zones)
         && same_kept(held_kept, moved_kept)
         && same_erring(held_erring, moved_erring)
 }
@@ -334,6 +370,37 @@ fn write_dump(bytes: &[u8]) {
     }
 }
 
+// ---- the zones
+
+fn write_signed(n: i16) {
+    if n < 0 {
+        print(b"-");
+        io::print_decimal(STDOUT_FILENO, (0 - (n as i32)) as u64);
+    } else {
+        io::print_decimal(STDOUT_FILENO, n as u64);
+    }
+}
+
+// A zone's reading in sixteenths.
+fn write_zone(zones: [Zone; 6], zone: u8) {
+    print(b" ");
+    match state::zone_at(zones, zone) {
+        Reading::Missing => print(b"-"),
+        Reading::Taken(n) => write_signed(n),
+    }
+}
+
+fn write_zones(zones: [Zone; 6]) {
+    print(b"zones");
+    write_zone(zones, 0);
+    write_zone(zones, 1);
+    write_zone(zones, 2);
+    write_zone(zones, 3);
+    write_zone(zones, 4);
+    write_zone(zones, 5);
+    print(b"\n");
+}
+
 fn main() {
     let mut input = [0u8; INPUT];
     let n = io::read_full(STDIN_FILENO, &mut input);
@@ -344,4 +411,6 @@ fn main() {
     let mut all = [0u8; REGISTERS];
     lent::dump(chip, &mut all);
     write_dump(&all);
+    let zones = chip.zones;
+    write_zones(zones);
 }

@@ -6,7 +6,6 @@ pub mod Count
 pub mod Tab
 pub mod Order
 pub mod Magnitude
-pub mod Halves
 pub mod Pointwise
 pub mod Rises
 pub mod Every

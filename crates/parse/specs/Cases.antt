@@ -5,7 +5,7 @@ use Prim.Native.Nat.{ℕ}
 use lib.IntN.{pos, negsuc}
 use Rattle.laws.specs.Every.{every}
 use Rattle.laws.specs.Tab.{tab}
-use Rattle.temperature.specs.declared.Reading.the-variants as reading
+use Rattle.temperature.specs.declared.Stated.the-variants as stated
 use Rattle.state.specs.declared.Count.the-variants as count
 use Rattle.event.specs.declared.Event.the-variants.{Temperature, Voltage, Pin, Tick, Write, Read, ReadBlock, WriteBlock}
 use Rattle.text.specs.Fields.{firstField, otherFields, fieldsOf, fieldAt}
@@ -13,16 +13,21 @@ use Rattle.text.specs.Number.{isDigit, allDigits, valueOf, runOf, plusOf, minus
 use Rattle.text.specs.Hex.{nibbleOf, hexByteOf, isHex, hexValue, hexesSpelt, hexesOf}
 use Rattle.parse.specs.declared.Parsed.{Parsed}
 use Rattle.parse.specs.declared.Parsed.the-variants.{Wrong, Fine}
-use Rattle.parse.specs.Parse.{letterOf, numberAt, indexOf, spelledReading, countOf, pairOf, temperatureLine, voltageLine, pinLine, aloneLine, twoBy, twoOf, threeBy, threeOf, writeBy, writeLine, readBy, readLine, readBlockBy, readBlockLine, isData, writeBlockBy, writeBlockLine, eventBy, eventOf, dataBy, dataOf}
+use Rattle.parse.specs.Parse.{letterOf, numberAt, indexOf, spelledStated, countOf, pairOf, temperatureLine, voltageLine, pinLine, aloneLine, twoBy, twoOf, threeBy, threeOf, writeBy, writeLine, readBy, readLine, readBlockBy, readBlockLine, isData, writeBlockBy, writeBlockLine, eventBy, eventOf, dataBy, dataOf}
 
 -- what a line says, by its own letter
 abbrev pub said : List ℕ → Parsed
 said s = eventOf s
 
 -- "T\t1\t70", "T\t5\t-254", "T\t1\t-"; "-0" and a carriage return are wrong spelling
-pub temperatures : (said (84 ∷ 9 ∷ 49 ∷ 9 ∷ 55 ∷ 48 ∷ []) ≡ Fine (Temperature 1 (reading.Taken (pos 70)))) × (said (84 ∷ 9 ∷ 53 ∷ 9 ∷ 45 ∷ 50 ∷ 53 ∷ 52 ∷ []) ≡ Fine (Temperature 5 (reading.Taken (negsuc 253)))) × (said (84 ∷ 9 ∷ 49 ∷ 9 ∷ 45 ∷ []) ≡ Fine (Temperature 1 reading.Missing)) × (said (84 ∷ 9 ∷ 49 ∷ 9 ∷ 45 ∷ 48 ∷ []) ≡ Wrong) × (said (84 ∷ 9 ∷ 49 ∷ 9 ∷ 55 ∷ 48 ∷ 13 ∷ []) ≡ Wrong)
-unfolding eventBy letterOf fieldsOf firstField otherFields fieldAt temperatureLine pairOf spelledReading numberAt indexOf decimalOf plusOf minusOf runOf allDigits isDigit valueOf isSpelt
+pub temperatures : (said (84 ∷ 9 ∷ 49 ∷ 9 ∷ 55 ∷ 48 ∷ []) ≡ Fine (Temperature 1 (stated.Halves (pos 70)))) × (said (84 ∷ 9 ∷ 53 ∷ 9 ∷ 45 ∷ 50 ∷ 53 ∷ 52 ∷ []) ≡ Fine (Temperature 5 (stated.Halves (negsuc 253)))) × (said (84 ∷ 9 ∷ 49 ∷ 9 ∷ 45 ∷ []) ≡ Fine (Temperature 1 stated.Missing)) × (said (84 ∷ 9 ∷ 49 ∷ 9 ∷ 45 ∷ 48 ∷ []) ≡ Wrong) × (said (84 ∷ 9 ∷ 49 ∷ 9 ∷ 55 ∷ 48 ∷ 13 ∷ []) ≡ Wrong)
+unfolding eventBy letterOf fieldsOf firstField otherFields fieldAt temperatureLine pairOf spelledStated numberAt indexOf decimalOf plusOf minusOf runOf allDigits isDigit valueOf isSpelt
 temperatures = (refl, refl, refl, refl, refl)
+
+-- "U\t1\t561", "U\t5\t-2032", "U\t1\t-"; "U\t1\t-0" and a "U\t1" are wrong spelling, and so is a small u
+pub sixteenths : (said (85 ∷ 9 ∷ 49 ∷ 9 ∷ 53 ∷ 54 ∷ 49 ∷ []) ≡ Fine (Temperature 1 (stated.Sixteenths (pos 561)))) × (said (85 ∷ 9 ∷ 53 ∷ 9 ∷ 45 ∷ 50 ∷ 48 ∷ 51 ∷ 50 ∷ []) ≡ Fine (Temperature 5 (stated.Sixteenths (negsuc 2031)))) × (said (85 ∷ 9 ∷ 49 ∷ 9 ∷ 45 ∷ []) ≡ Fine (Temperature 1 stated.Missing)) × (said (85 ∷ 9 ∷ 49 ∷ 9 ∷ 45 ∷ 48 ∷ []) ≡ Wrong) × (said (85 ∷ 9 ∷ 49 ∷ []) ≡ Wrong) × (said (117 ∷ 9 ∷ 49 ∷ 9 ∷ 45 ∷ []) ≡ Wrong)
+unfolding eventBy letterOf fieldsOf firstField otherFields fieldAt temperatureLine pairOf spelledStated numberAt indexOf decimalOf plusOf minusOf runOf allDigits isDigit valueOf isSpelt
+sixteenths = (refl, refl, refl, refl, refl, refl)
 
 -- "V\t17\t5" is spelled right, and so is a number of 30 digits: ranges are the event's business
 pub voltages : (said (86 ∷ 9 ∷ 49 ∷ 55 ∷ 9 ∷ 53 ∷ []) ≡ Fine (Voltage 17 (count.Taken 5))) × (said (86 ∷ 9 ∷ 49 ∷ 9 ∷ 49 ∷ 50 ∷ 51 ∷ 52 ∷ 53 ∷ 54 ∷ 55 ∷ 56 ∷ 57 ∷ 48 ∷ 49 ∷ 50 ∷ 51 ∷ 52 ∷ 53 ∷ 54 ∷ 55 ∷ 56 ∷ 57 ∷ 48 ∷ 49 ∷ 50 ∷ 51 ∷ 52 ∷ 53 ∷ 54 ∷ 55 ∷ 56 ∷ 57 ∷ 48 ∷ []) ≡ Fine (Voltage 1 (count.Taken 123456789012345678901234567890)))

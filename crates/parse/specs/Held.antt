@@ -5,11 +5,12 @@ use mathlib.Core.List.{List}
 use Prim.Native.Nat.{ℕ, zero, suc, min}
 use native.Mathlib.Omega.{arith}
 use lib.Dec.{eqb}
-use lib.IntN.{pos, negℤ}
+use lib.IntN.{ℤ, pos, negℤ}
 use lib.ListN.{length}
 use Rattle.laws.specs.Pick.{both}
 use Rattle.laws.specs.Pointwise.{pick-related, pick-each}
-use Rattle.temperature.specs.declared.Reading.the-variants.{Taken}
+use Rattle.temperature.specs.declared.Stated.{Stated}
+use Rattle.temperature.specs.declared.Stated.the-variants.{Halves, Sixteenths}
 use Rattle.event.specs.declared.Event.{Event}
 use Rattle.text.specs.declared.Number.{Number}
 use Rattle.text.specs.declared.Number.the-variants as number
@@ -24,9 +25,9 @@ use Rattle.parse.specs.declared.Two.{Two}
 use Rattle.parse.specs.declared.Two.the-variants as two
 use Rattle.parse.specs.declared.Three.{Three}
 use Rattle.parse.specs.declared.Three.the-variants as three
-use Rattle.parse.specs.Parse.{indexOf, spelledReading, countOf, temperatureLine, voltageLine, fanLine, hotLine, aloneLine, twoOf, threeOf, writeBy, writeLine, readBy, readLine, readBlockBy, readBlockLine, isData, writeBlockBy, writeBlockLine}
-use Rattle.parse.specs.Pairs.{bothOf, pairLine}
-use Rattle.parse.specs.Clamped.{saturatedPair, clampedIndex, clampedReading, clampedCount, clampedEvent, clampedParsed}
+use Rattle.parse.specs.Parse.{indexOf, spelledStated, countOf, temperatureLine, voltageLine, fanLine, hotLine, aloneLine, twoOf, threeOf, writeBy, writeLine, readBy, readLine, readBlockBy, readBlockLine, isData, writeBlockBy, writeBlockLine}
+use Rattle.parse.specs.Pairs.{bothOf, pairLine, countedBy}
+use Rattle.parse.specs.Clamped.{saturatedPair, clampedIndex, clampedSigned, clampedStated, clampedCount, clampedEvent, clampedParsed}
 
 -- ---- numbers
 
@@ -48,21 +49,27 @@ count-held number.Dash = refl
 count-held (number.Plus v) = let e : min (min v 65535) 65535 ≡ min v 65535 = omega arith in rw e
 count-held (number.Minus v) = refl
 
--- a reading below 0 is held to -32767, as one above to 32767
-pub clamped-minus : (v : ℕ) → clampedReading (Taken (negℤ (pos v))) ≡ Taken (negℤ (pos (min v 32767)))
-unfolding clampedReading
+-- a number below 0 is held to -32767, as one above to 32767
+pub clamped-minus : (v : ℕ) → clampedSigned (negℤ (pos v)) ≡ negℤ (pos (min v 32767))
+unfolding clampedSigned
 clamped-minus zero = refl
 clamped-minus (suc v) = let e : min (suc v) 32767 ≡ suc (min v 32766) = omega arith in rw e
 
 min-min : (v : ℕ) → min (min v 65535) 32767 ≡ min v 32767
 min-min v = omega arith
 
-pub reading-held : (n : Number) → clampedReading (spelledReading (saturated n)) ≡ clampedReading (spelledReading n)
-unfolding clampedReading spelledReading saturated
-reading-held number.Wrong = refl
-reading-held number.Dash = refl
-reading-held (number.Plus v) = rw (min-min v)
-reading-held (number.Minus v) = rw (clamped-minus (min v 65535), clamped-minus v, min-min v)
+-- a temperature is held as its count is
+pub clamped-counted : (letter : ℕ) (n : ℤ) → clampedStated (countedBy letter n) ≡ countedBy letter (clampedSigned n)
+unfolding clampedStated countedBy
+clamped-counted letter n = pick-related (λ (x y : Stated). clampedStated x ≡ y) (eqb letter 84) refl refl
+
+stated-held : (counted : ℤ → Stated) → ((z : ℤ) → clampedStated (counted z) ≡ counted (clampedSigned z)) → (n : Number) → clampedStated (spelledStated counted (saturated n)) ≡ clampedStated (spelledStated counted n)
+unfolding clampedSigned spelledStated saturated
+stated-held counted c number.Wrong = refl
+stated-held counted c number.Dash = refl
+stated-held counted c (number.Plus v) = rw (c (pos (min v 65535)), c (pos v), min-min v)
+stated-held counted c (number.Minus v) =
+    rw (c (negℤ (pos (min v 65535))), c (negℤ (pos v)), clamped-minus (min v 65535), clamped-minus v, min-min v)
 
 -- ---- lines
 
@@ -76,10 +83,10 @@ both-held i v =
 abbrev SameClamped : Parsed → Parsed → Type 0
 SameClamped x y = clampedParsed x ≡ clampedParsed y
 
-temperature-held : (p : Pair) → SameClamped (temperatureLine (saturatedPair p)) (temperatureLine p)
+temperature-held : (counted : ℤ → Stated) → ((z : ℤ) → clampedStated (counted z) ≡ counted (clampedSigned z)) → (p : Pair) → SameClamped (temperatureLine counted (saturatedPair p)) (temperatureLine counted p)
 unfolding clampedParsed clampedEvent saturatedPair temperatureLine
-temperature-held Wrong = refl
-temperature-held (Of i v) = rw (index-held i, reading-held v)
+temperature-held counted c Wrong = refl
+temperature-held counted c (Of i v) = rw (index-held i, stated-held counted c v)
 
 voltage-held : (p : Pair) → SameClamped (voltageLine (saturatedPair p)) (voltageLine p)
 unfolding clampedParsed clampedEvent saturatedPair voltageLine
@@ -98,12 +105,13 @@ hot-held (Of i v) = rw (index-held i, count-held v)
 
 -- what a pair says is handed on as of the exact one
 pub pair-held : (letter : ℕ) (p : Pair) → clampedParsed (pairLine letter (saturatedPair p)) ≡ clampedParsed (pairLine letter p)
-unfolding pairLine
+unfolding pairLine clampedStated
 pair-held letter p =
     pick-related SameClamped (eqb letter 70) (fan-held p)
     (pick-related SameClamped (eqb letter 72) (hot-held p)
-    (pick-related SameClamped (eqb letter 84) (temperature-held p)
-    (pick-related SameClamped (eqb letter 86) (voltage-held p) refl)))
+    (pick-related SameClamped (eqb letter 84) (temperature-held Halves (λ h. refl) p)
+    (pick-related SameClamped (eqb letter 85) (temperature-held Sixteenths (λ n. refl) p)
+    (pick-related SameClamped (eqb letter 86) (voltage-held p) refl))))
 
 -- ---- a letter alone, and bus fields, have no number to hold
 

@@ -1,14 +1,14 @@
--- Document 01, "Lines and refusals", and document 02, Q-1: the event that a line says, and the bytes of a block write. Numbers are exact
--- here, however long they are. Letters: 65 A, 70 F, 71 G, 72 H, 75 K, 80 P, 82 R, 84 T, 86 V, 87 W, 88 X. Assumes nothing.
+-- Document 01, "Lines and refusals", and document 02, Q-1 and Q-7: the event that a line says, and the bytes of a block write. Numbers
+-- are exact here, however long they are. Letters: 65 A, 70 F, 71 G, 72 H, 75 K, 80 P, 82 R, 84 T, 85 U, 86 V, 87 W, 88 X. Assumes nothing.
 use Prim.Native.Nat.{ℕ, _+_, min}
 use mathlib.Core.Bool.{Bool}
 use mathlib.Core.List.{List, []}
 use lib.Dec.{eqb, leb}
-use lib.IntN.{pos, negℤ}
+use lib.IntN.{ℤ, pos, negℤ}
 use lib.ListN.{length, getD}
 use Rattle.laws.specs.Pick.{pick, both}
-use Rattle.temperature.specs.declared.Reading.{Reading}
-use Rattle.temperature.specs.declared.Reading.the-variants as reading
+use Rattle.temperature.specs.declared.Stated.{Stated}
+use Rattle.temperature.specs.declared.Stated.the-variants as stated
 use Rattle.state.specs.declared.Count.{Count}
 use Rattle.state.specs.declared.Count.the-variants as count
 use Rattle.event.specs.declared.Event.{Event}
@@ -45,12 +45,12 @@ indexOf number.Dash = 0
 indexOf (number.Plus v) = v
 indexOf (number.Minus v) = 0
 
--- '"-" for missing or none'
-unfoldable pub spelledReading : Number → Reading
-spelledReading number.Wrong = reading.Missing
-spelledReading number.Dash = reading.Missing
-spelledReading (number.Plus v) = reading.Taken (pos v)
-spelledReading (number.Minus v) = reading.Taken (negℤ (pos v))
+-- '"-" for missing or none'; a number is counted in half degrees or in sixteenths
+unfoldable pub spelledStated : (ℤ → Stated) → Number → Stated
+spelledStated counted number.Wrong = stated.Missing
+spelledStated counted number.Dash = stated.Missing
+spelledStated counted (number.Plus v) = counted (pos v)
+spelledStated counted (number.Minus v) = counted (negℤ (pos v))
 
 -- a count below 0 is out of range, as 65535 is
 unfoldable pub countOf : Number → Count
@@ -66,9 +66,9 @@ unfoldable pub pairOf : List ℕ → Pair
 pairOf s =
     pick (both (eqb (length (fieldsOf s)) 3) (both (isSpelt (numberAt s 1)) (isSpelt (numberAt s 2)))) (pair.Of (numberAt s 1) (numberAt s 2)) pair.Wrong
 
-unfoldable pub temperatureLine : Pair → Parsed
-temperatureLine pair.Wrong = Wrong
-temperatureLine (pair.Of i v) = Fine (Temperature (indexOf i) (spelledReading v))
+unfoldable pub temperatureLine : (ℤ → Stated) → Pair → Parsed
+temperatureLine counted pair.Wrong = Wrong
+temperatureLine counted (pair.Of i v) = Fine (Temperature (indexOf i) (spelledStated counted v))
 
 unfoldable pub voltageLine : Pair → Parsed
 voltageLine pair.Wrong = Wrong
@@ -141,7 +141,8 @@ writeBlockBy (three.Of a command n) s = pick (isData n s) (Fine (WriteBlock a co
 unfoldable pub writeBlockLine : List ℕ → Parsed
 writeBlockLine s = writeBlockBy (threeOf s) s
 
--- the event that a line says by this letter; any other letter is wrong spelling
+-- the event that a line says by this letter; any other letter is wrong spelling. 02, Q-7: "A new letter U carries sixteenths for zones 1 to
+-- 5, under T's conditions; T keeps half degrees."
 unfoldable pub eventBy : ℕ → List ℕ → Parsed
 eventBy letter s =
     pick (eqb letter 65) (pinLine s)
@@ -151,10 +152,11 @@ eventBy letter s =
     (pick (eqb letter 75) (aloneLine Tick s)
     (pick (eqb letter 80) (writeBlockLine s)
     (pick (eqb letter 82) (readLine s)
-    (pick (eqb letter 84) (temperatureLine (pairOf s))
+    (pick (eqb letter 84) (temperatureLine stated.Halves (pairOf s))
+    (pick (eqb letter 85) (temperatureLine stated.Sixteenths (pairOf s))
     (pick (eqb letter 86) (voltageLine (pairOf s))
     (pick (eqb letter 87) (writeLine s)
-    (pick (eqb letter 88) (aloneLine Reset s) Wrong))))))))))
+    (pick (eqb letter 88) (aloneLine Reset s) Wrong)))))))))))
 
 abbrev pub eventOf : List ℕ → Parsed
 eventOf s = eventBy (letterOf s) s

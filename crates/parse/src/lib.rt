@@ -1,17 +1,17 @@
-// A line of text as an event (document 01, "Lines and refusals"; document 02, Q-1). The ranges of its numbers are the event's own business.
+// A line of text as an event (document 01, "Lines and refusals"; document 02, Q-1 and Q-7). The ranges of its numbers are the event's own business.
 ghost use mathlib.Core.Path.{_≡_};
 ghost use mathlib.Core.List.{_++_};
 ghost use Prim.Native.Nat.{_≤_, min};
 ghost use lib.IntN.{pos, negℤ};
 ghost use lib.ListN.{length, drop};
 ghost use Rattle.text.specs.Number.{saturated};
-ghost use Rattle.parse.specs.Parse.{numberAt, letterOf, indexOf, spelledReading, countOf, pairOf, pinLine, aloneLine, twoBy, twoOf, threeBy, threeOf, writeLine, readLine, readBlockLine, isData, writeBlockLine, eventBy, eventOf, dataBy, dataOf};
-ghost use Rattle.parse.specs.Clamped.{saturatedPair, clampedIndex, clampedReading, clampedCount, clampedParsed};
-ghost use Rattle.parse.specs.Pairs.{bothOf, pairLine};
+ghost use Rattle.parse.specs.Parse.{numberAt, letterOf, indexOf, spelledStated, countOf, pairOf, pinLine, aloneLine, twoBy, twoOf, threeBy, threeOf, writeLine, readLine, readBlockLine, isData, writeBlockLine, eventBy, eventOf, dataBy, dataOf};
+ghost use Rattle.parse.specs.Clamped.{saturatedPair, clampedIndex, clampedStated, clampedCount, clampedParsed};
+ghost use Rattle.parse.specs.Pairs.{bothOf, pairLine, countedBy};
 use event::BLOCK_MOST;
 use event::Event;
 use state::Count;
-use temperature::Reading;
+use temperature::Stated;
 use text::Hex;
 use text::Number;
 
@@ -71,14 +71,25 @@ fn below(v: u16) -> i16
     0 - above(v)
 }
 
-fn spelled_reading(n: Number) -> Reading
-    ensures { λ r. ⌜ r ≡ clampedReading (spelledReading n) ⌝ }
+// A temperature in the unit of its letter: of T half degrees, of U sixteenths.
+fn counted_by(letter: u8, n: i16) -> Stated
+    ensures { λ r. ⌜ r ≡ countedBy letter n ⌝ }
+{
+    if letter == b'T' {
+        Stated::Halves(n)
+    } else {
+        Stated::Sixteenths(n)
+    }
+}
+
+fn spelled_stated(letter: u8, n: Number) -> Stated
+    ensures { λ r. ⌜ r ≡ clampedStated (spelledStated (countedBy letter) n) ⌝ }
 {
     match n {
-        Number::Wrong => Reading::Missing,
-        Number::Dash => Reading::Missing,
-        Number::Plus(v) => Reading::Taken(above(v)),
-        Number::Minus(v) => Reading::Taken(below(v)),
+        Number::Wrong => Stated::Missing,
+        Number::Dash => Stated::Missing,
+        Number::Plus(v) => counted_by(letter, above(v)),
+        Number::Minus(v) => counted_by(letter, below(v)),
     }
 }
 
@@ -146,9 +157,9 @@ fn pair_event(letter: u8, i: Number, v: Number) -> Parsed
             input: index,
             level: count_of(v),
         }),
-        b'T' => Parsed::Fine(Event::Temperature {
+        b'T' | b'U' => Parsed::Fine(Event::Temperature {
             zone: index,
-            reading: spelled_reading(v),
+            stated: spelled_stated(letter, v),
         }),
         b'V' => Parsed::Fine(Event::Voltage {
             channel: index,

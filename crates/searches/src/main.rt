@@ -1,9 +1,11 @@
-// Runs the step search (document 02, Q-11) on cases, one a line: old step, reading and hysteresis, on the table that a line before it gave.
+// Runs the step search (document 02, Q-11) on cases, one a line: old step, reading in sixteenths and hysteresis, on the table that a line
+// before it gave.
 // It prints the case, the new step and how many thresholds the search compared. A line that begins with # is a title, and printed.
 ghost use Prim.Native.Nat.{_<_};
 use libc::STDERR_FILENO;
 use libc::STDIN_FILENO;
 use libc::STDOUT_FILENO;
+use temperature::DEGREE;
 use temperature::Reading;
 use text::Number;
 
@@ -12,7 +14,7 @@ const INPUT_MOST: usize = 32768;
 // One byte more tells that there is more.
 const INPUT: usize = INPUT_MOST + 1;
 
-// The fields of a table's line: base, how many half degrees a count is, and the offsets.
+// The fields of a table's line: base, how many sixteenths a count is, and the offsets.
 const BASE: usize = 0;
 
 const UNIT: usize = 1;
@@ -34,9 +36,6 @@ const CASE_FIELDS: usize = 3;
 const OUT_OF_RANGE: u8 = 2;
 
 const SPELLING: u8 = 4;
-
-// How many half degrees a count is without LT12_RS.
-const WHOLE_DEGREES: u8 = 2;
 
 struct Table {
     base: i8,
@@ -197,7 +196,7 @@ fn first_table() -> Table {
     let offsets = setup.offsets12;
     Table {
         base: setup.bases[0],
-        unit: WHOLE_DEGREES,
+        unit: DEGREE as u8,
         offsets: offsets,
     }
 }

@@ -1,5 +1,5 @@
--- Document 01, "Events", and 02, Q-2: T, V, F, H, A and X on the chip. Zones, channels, fans and inputs count from 0; one that is not there
--- changes nothing. Assumes nothing.
+-- Document 01, "Events", and 02, Q-2 and Q-7: T and U, V, F, H, A and X on the chip. Zones, channels, fans and inputs count from 0; one that
+-- is not there changes nothing. Assumes nothing.
 use mathlib.Core.Path.{_≡_}
 use mathlib.Core.Bool.{Bool, not}
 use mathlib.Core.List.{List}
@@ -23,17 +23,17 @@ use Rattle.state.specs.With.{withRegisters, withPin, withZone, withVolt, withIn
 use Rattle.sense.specs.Errors.{comparedFan, fanFile}
 use Rattle.sense.specs.Hysteresis.{erringAfter, erredVolt, voltageFile, voltageErring}
 
--- ---- T
+-- ---- T and U
 
--- "T for zone 3 changes nothing while INT_AD11 or INT_WR_E is set."
+-- "T for zone 3 changes nothing while INT_AD11 or INT_WR_E is set."; 02: "A new letter U .., under T's conditions"
 unfoldable pub zoneThreeFed : ℕ → Bool
 zoneThreeFed source = either (isSet source INT-AD11) (isSet source INT-WR-E)
 
--- "Zone 4 has no T event.": whether T sets a zone
+-- "Zone 4 has no T event.": whether T or U sets a zone
 unfoldable pub zoneHeard : ℕ → ℕ → Bool
 zoneHeard source zone = either (ltb zone 4) (both (eqb zone 4) (not (zoneThreeFed source)))
 
--- "T, zone 1 to 5 (1a, 1b, 2a, 2b, zone 3)"
+-- "T, zone 1 to 5 (1a, 1b, 2a, 2b, zone 3)"; 02: "U carries sixteenths for zones 1 to 5"
 unfoldable pub tookTemperature : Chip → ℕ → Reading → Chip
 tookTemperature c zone r = pick (zoneHeard (registerAt c TEMPERATURE-SOURCE-SELECT) zone) (withZone c zone r) c
 

@@ -296,7 +296,7 @@ fn zone_three_fed(source: u8) -> bool
     map::is_set(source, bits::INT_WR_E)
 }
 
-// T: whether it sets its zone, by 31h. Zones count from 0 in the order 1a, 1b, 2a, 2b, 3; the sixth has no T.
+// T and U: whether they set their zone, by 31h. Zones count from 0 in the order 1a, 1b, 2a, 2b, 3; the sixth has neither.
 pub fn hears_zone(source: u8, zone: u8) -> bool
     ensures { λ r. ⌜ r ≡ zoneHeard source zone ⌝ }
 {

@@ -7,7 +7,8 @@ use Prim.Native.Nat.{ℕ}
 use Rattle.state.specs.PowerOn.{defaultSetup}
 use Rattle.state.specs.Valid.{default-valid}
 use Rattle.laws.specs.Never.{never}
-use Rattle.temperature.specs.declared.Reading.{Reading}
+use Rattle.temperature.specs.declared.Stated.{Stated}
+use Rattle.temperature.specs.Temperature.{statedReading}
 use Rattle.temperature.specs.Order.{NoHotter}
 use Rattle.event.specs.declared.Event.{Event}
 use Rattle.event.specs.declared.Event.the-variants.{Temperature}
@@ -40,8 +41,8 @@ module _ (s t : Session) (p : Pair (s .chip) (t .chip)) where
   unfolding begunLine eventLine
   events-rise a x y = record { chips = next p a x y; answers = step p a x y .answers }
 
-  -- T lines, the second hotter; the bytes that they carry make no difference
-  hotter-rises : {l m : List ℕ} {zone : ℕ} {q r : Reading} {j k : Judged} → NoHotter q r → Takes s l (Fine (Temperature zone q)) j → Takes t m (Fine (Temperature zone r)) k → Lines j k
+  -- T or U lines, the second hotter; the bytes that they carry make no difference
+  hotter-rises : {l m : List ℕ} {zone : ℕ} {q r : Stated} {j k : Judged} → NoHotter (statedReading q) (statedReading r) → Takes s l (Fine (Temperature zone q)) j → Takes t m (Fine (Temperature zone r)) k → Lines j k
   unfolding eventLine
   hotter-rises {l} {m} {zone} {q} {r} h (event x) (event y) =
       let cool = event-alone l (Temperature zone q) (λ address command e. never (cc)) (s .chip) in

@@ -2,6 +2,7 @@ pub mod Lines
 pub mod Carried
 pub mod TakenLine
 pub mod HotterLines
+pub mod StatedLines
 pub mod TickLine
 pub mod Cases
 pub mod ReadLines

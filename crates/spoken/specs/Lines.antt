@@ -3,7 +3,8 @@
 use mathlib.Core.Path.{_≡_}
 use mathlib.Core.List.{List, [], _∷_}
 use Prim.Native.Nat.{ℕ}
-use Rattle.temperature.specs.declared.Reading.{Reading}
+use Rattle.temperature.specs.declared.Stated.{Stated}
+use Rattle.temperature.specs.Temperature.{statedReading}
 use Rattle.temperature.specs.Order.{NoHotter}
 use Rattle.event.specs.declared.Event.{Event}
 use Rattle.event.specs.declared.Event.the-variants.{Temperature}
@@ -23,12 +24,12 @@ pub data AllTaken : Session → List (List ℕ) → Type 0 where
   none : {s : Session} → AllTaken s []
   more : {s : Session} {l : List ℕ} {ls : List (List ℕ)} → judgedLine s l .refusal ≡ 0 → AllTaken (judgedLine s l .session) ls → AllTaken s (l ∷ ls)
 
--- the same line, whatever it says, lines that say the same event with the same bytes, or lines that say T events for the same zone, the
--- second hotter
+-- the same line, whatever it says, lines that say the same event with the same bytes, or T or U lines for the same zone, the temperature of
+-- the second hotter or equal in sixteenths, missing the hottest; 02, Q-7: "Demand 3 reads T and U alike, by the temperature they state."
 pub data LinesAlike : List ℕ → List ℕ → Type 0 where
   same : (l : List ℕ) → LinesAlike l l
   said : {l m : List ℕ} {e : Event} → eventOf l ≡ Fine e → eventOf m ≡ Fine e → dataOf l ≡ dataOf m → LinesAlike l m
-  hotter : {l m : List ℕ} {zone : ℕ} {q r : Reading} → eventOf l ≡ Fine (Temperature zone q) → eventOf m ≡ Fine (Temperature zone r) → NoHotter q r → LinesAlike l m
+  hotter : {l m : List ℕ} {zone : ℕ} {q r : Stated} → eventOf l ≡ Fine (Temperature zone q) → eventOf m ≡ Fine (Temperature zone r) → NoHotter (statedReading q) (statedReading r) → LinesAlike l m
 
 -- alike place by place
 pub data AllLinesAlike : List (List ℕ) → List (List ℕ) → Type 0 where

@@ -10,29 +10,33 @@ use mir.Syntax.{w16}
 use mir.Val.{SFits, toZ, ofZ}
 use mir.Facts.{toZ-ofZ, toZ-pos}
 use Rattle.laws.specs.Magnitude.{mag-minus}
-use Rattle.laws.specs.Halves.{half-mag, twice-mag, double-mag}
+use Rattle.temperature.specs.Temperature.{HALF, DEGREE}
+use Rattle.temperature.specs.Sixteenths.{part-mag, degrees-mag, down-mag}
 
--- half of a count, twice that, and one more
-module _ {h : ℤ} (f : SFits w16 h) where
-  pub half-fits : SFits w16 (shrZ h 2)
-  half-fits = omega (arith, f, half-mag h)
+-- a count rounded down to halves, to degrees, those in sixteenths again, and half a degree more
+module _ {n : ℤ} (f : SFits w16 n) where
+  pub halves-fit : SFits w16 (shrZ n HALF)
+  halves-fit = omega (arith, f, down-mag n HALF)
 
-  pub even-fits : SFits w16 (shrZ h 2 *ℤ pos 2)
-  even-fits = omega (arith, f, half-mag h, twice-mag (shrZ h 2))
+  pub degrees-fit : SFits w16 (shrZ n DEGREE)
+  degrees-fit = omega (arith, f, down-mag n DEGREE)
 
-  pub odd-fits : SFits w16 (shrZ h 2 *ℤ pos 2 +ℤ pos 1)
-  odd-fits = omega (arith, f, half-mag h, double-mag (shrZ h 2) true)
+  pub down-fits : SFits w16 (shrZ n DEGREE *ℤ pos DEGREE)
+  down-fits = omega (arith, f, down-mag n DEGREE, degrees-mag (shrZ n DEGREE))
 
--- twice a byte, as the code has it; a byte less k, and twice that
+  pub half-more-fits : SFits w16 (shrZ n DEGREE *ℤ pos DEGREE +ℤ pos HALF)
+  half-more-fits = omega (arith, f, down-mag n DEGREE, part-mag (shrZ n DEGREE) true)
+
+-- a byte's degrees in sixteenths, as the code has them; a byte less k, and as many degrees
 module _ {byte : ℕ} (b : byte < 256) where
   signed : toZ w16 byte ≡ pos byte
   signed = toZ-pos w16 (omega arith)
 
-  pub twice-fits : SFits w16 (toZ w16 byte *ℤ pos 2)
-  twice-fits = rw signed (omega arith)
+  pub byte-degrees-fit : SFits w16 (toZ w16 byte *ℤ pos DEGREE)
+  byte-degrees-fit = rw signed (omega arith)
 
-  pub twice-is : toZ w16 (ofZ w16 (toZ w16 byte *ℤ pos 2)) ≡ pos byte *ℤ pos 2
-  twice-is = rw (toZ-ofZ twice-fits, signed)
+  pub byte-degrees-are : toZ w16 (ofZ w16 (toZ w16 byte *ℤ pos DEGREE)) ≡ pos byte *ℤ pos DEGREE
+  byte-degrees-are = rw (toZ-ofZ byte-degrees-fit, signed)
 
   module _ (k : ℕ) (l : T (leb k 256)) where
     less-mag : mag (pos byte -ℤ pos k) < 1024
@@ -44,8 +48,8 @@ module _ {byte : ℕ} (b : byte < 256) where
     less-is : toZ w16 (ofZ w16 (toZ w16 byte -ℤ pos k)) ≡ pos byte -ℤ pos k
     less-is = rw (toZ-ofZ less-fits, signed)
 
-    pub twice-less-fits : SFits w16 (toZ w16 (ofZ w16 (toZ w16 byte -ℤ pos k)) *ℤ pos 2)
-    twice-less-fits = rw less-is (omega (arith, less-mag, twice-mag (pos byte -ℤ pos k)))
+    pub less-degrees-fit : SFits w16 (toZ w16 (ofZ w16 (toZ w16 byte -ℤ pos k)) *ℤ pos DEGREE)
+    less-degrees-fit = rw less-is (omega (arith, less-mag, degrees-mag (pos byte -ℤ pos k)))
 
-    pub twice-less-is : toZ w16 (ofZ w16 (toZ w16 (ofZ w16 (toZ w16 byte -ℤ pos k)) *ℤ pos 2)) ≡ (pos byte -ℤ pos k) *ℤ pos 2
-    twice-less-is = rw (toZ-ofZ twice-less-fits, less-is)
+    pub less-degrees-are : toZ w16 (ofZ w16 (toZ w16 (ofZ w16 (toZ w16 byte -ℤ pos k)) *ℤ pos DEGREE)) ≡ (pos byte -ℤ pos k) *ℤ pos DEGREE
+    less-degrees-are = rw (toZ-ofZ less-degrees-fit, less-is)

@@ -1,4 +1,5 @@
 pub mod Temperature
+pub mod Sixteenths
 pub mod Raised
 pub mod Order
 pub mod Shows

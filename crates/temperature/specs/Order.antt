@@ -3,12 +3,11 @@ use mathlib.Core.Bool.{Bool}
 use lib.Dec.{T}
 use lib.IntN.{ℤ, pos, _*ℤ_}
 use lib.Signed.{leZ, shrZ}
-use Rattle.laws.specs.Count.{oneIf}
-use Rattle.laws.specs.Halves.{leZ-half, leZ-twice}
 use Rattle.laws.specs.Order.{leZ-refl, leZ-trans, larger, left-le, right-le, larger-le, leZ-plus}
 use Rattle.temperature.specs.declared.Reading.{Reading}
 use Rattle.temperature.specs.declared.Reading.the-variants.{Taken, Missing}
-use Rattle.temperature.specs.Temperature.{withHalf, hotterOf}
+use Rattle.temperature.specs.Temperature.{DEGREE, withHalf, hotterOf}
+use Rattle.temperature.specs.Sixteenths.{halfOf, leZ-down, leZ-degrees}
 
 pub data NoHotter : Reading → Reading → Type 0 where
   missing : {x : Reading} → NoHotter x Missing
@@ -16,7 +15,7 @@ pub data NoHotter : Reading → Reading → Type 0 where
 
 pub no-hotter-refl : (r : Reading) → NoHotter r r
 no-hotter-refl Missing = missing
-no-hotter-refl (Taken h) = taken (leZ-refl h)
+no-hotter-refl (Taken n) = taken (leZ-refl n)
 
 pub no-hotter-trans : {a b c : Reading} → NoHotter a b → NoHotter b c → NoHotter a c
 no-hotter-trans p missing = missing
@@ -37,4 +36,4 @@ unfolding withHalf
 half-mono half missing = missing
 half-mono half (taken {x} {y} p) =
     taken
-    (leZ-plus (shrZ x 2 *ℤ pos 2) (shrZ y 2 *ℤ pos 2) (oneIf half) (leZ-twice (shrZ x 2) (shrZ y 2) (leZ-half x y p)))
+    (leZ-plus (shrZ x DEGREE *ℤ pos DEGREE) (shrZ y DEGREE *ℤ pos DEGREE) (halfOf half) (leZ-degrees (shrZ x DEGREE) (shrZ y DEGREE) (leZ-down x y p)))

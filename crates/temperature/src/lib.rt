@@ -1,13 +1,30 @@
-// A zone's temperature, and how its two registers show it.
+// A zone's temperature: how it is held, how an event states it, and how its two registers show it.
 ghost use mathlib.Core.Path.{_≡_};
 ghost use Rattle.temperature.specs.Temperature.{wholeOf, isOdd, wholeByte, halfSet, readingOf, countReading, withHalf, hotterOf};
 ghost use Rattle.temperature.specs.Raised.{raised};
 
-// A signed count of half degrees, or none.
+// A signed count of sixteenths of a degree, or none.
 pub enum Reading {
     Missing,
     Taken(i16),
 }
+
+// A temperature as an event states it: none, a signed count of half degrees (T), or of sixteenths (U).
+pub enum Stated {
+    Missing,
+    Halves(i16),
+    Sixteenths(i16),
+}
+
+// The bits of a reading below half a degree, and below a degree.
+const HALF_BITS: i16 = 3;
+
+const DEGREE_BITS: i16 = HALF_BITS + 1;
+
+// How many sixteenths half a degree is, and a degree.
+pub const HALF: i16 = 1 << HALF_BITS;
+
+pub const DEGREE: i16 = 1 << DEGREE_BITS;
 
 // The whole byte while a reading is missing.
 const MISSING: u8 = 0x80;
@@ -19,11 +36,11 @@ fn raise(z: i16) -> u32
     (z as i32 + 65536) as u32
 }
 
-// h / 2 rounded down, as two's complement.
-fn whole(h: i16) -> u8
-    ensures { λ r. ⌜ r ≡ wholeOf h ⌝ }
+// The reading rounded down to a degree, as two's complement.
+fn whole(n: i16) -> u8
+    ensures { λ r. ⌜ r ≡ wholeOf n ⌝ }
 {
-    (raise(h >> 1) % 256) as u8
+    (raise(n >> DEGREE_BITS) % 256) as u8
 }
 
 fn is_odd(h: i16) -> bool
@@ -36,23 +53,23 @@ fn is_odd(h: i16) -> bool
 pub fn whole_byte(reading: Reading) -> u8
     ensures { λ r. ⌜ r ≡ wholeByte reading ⌝ }
 {
-    let Reading::Taken(h) = reading else {
+    let Reading::Taken(n) = reading else {
         return MISSING;
     };
-    whole(h)
+    whole(n)
 }
 
 // Whether the half bit is set that shows a reading.
 pub fn half_set(reading: Reading) -> bool
     ensures { λ r. ⌜ r ≡ halfSet reading ⌝ }
 {
-    let Reading::Taken(h) = reading else {
+    let Reading::Taken(n) = reading else {
         return false;
     };
-    is_odd(h)
+    is_odd(n >> HALF_BITS)
 }
 
-// The reading that a whole-degree byte stands for, with its half bit 0.
+// The reading that a whole-degree byte stands for, with no fraction.
 pub fn from_byte(byte: u8) -> Reading
     ensures { λ r. ⌜ r ≡ readingOf byte ⌝ }
 {
@@ -60,9 +77,9 @@ pub fn from_byte(byte: u8) -> Reading
         return Reading::Missing;
     }
     if byte < 0x80 {
-        return Reading::Taken(byte as i16 * 2);
+        return Reading::Taken(byte as i16 * DEGREE);
     }
-    Reading::Taken((byte as i16 - 256) * 2)
+    Reading::Taken((byte as i16 - 256) * DEGREE)
 }
 
 // The reading that a voltage count stands for: the count minus 128 degrees. A count of 0 is missing.
@@ -72,21 +89,21 @@ pub fn from_count(count: u8) -> Reading
     if count == 0 {
         return Reading::Missing;
     }
-    Reading::Taken((count as i16 - 128) * 2)
+    Reading::Taken((count as i16 - 128) * DEGREE)
 }
 
-// The reading with its half bit alone set or cleared; a missing one stays missing.
+// The reading with its half bit set or cleared and no rest below it; a missing one stays missing.
 pub fn with_half(reading: Reading, half: bool) -> Reading
     ensures { λ r. ⌜ r ≡ withHalf reading half ⌝ }
 {
-    let Reading::Taken(h) = reading else {
+    let Reading::Taken(n) = reading else {
         return Reading::Missing;
     };
-    let even = (h >> 1) * 2;
+    let degrees = (n >> DEGREE_BITS) * DEGREE;
     if half {
-        Reading::Taken(even + 1)
+        Reading::Taken(degrees + HALF)
     } else {
-        Reading::Taken(even)
+        Reading::Taken(degrees)
     }
 }
 

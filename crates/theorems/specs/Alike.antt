@@ -2,7 +2,8 @@
 use mathlib.Core.Path.{_≡_}
 use mathlib.Core.List.{List, [], _∷_}
 use Prim.Native.Nat.{ℕ, _≤_}
-use Rattle.temperature.specs.declared.Reading.{Reading}
+use Rattle.temperature.specs.declared.Stated.{Stated}
+use Rattle.temperature.specs.Temperature.{statedReading}
 use Rattle.temperature.specs.Order.{NoHotter}
 use Rattle.state.specs.declared.Chip.{Chip}
 use Rattle.event.specs.declared.Event.the-variants.{Temperature}
@@ -11,10 +12,11 @@ use Rattle.event.specs.declared.Answer.the-variants.{Refused, Ticked}
 use Rattle.event.specs.declared.Tick.{Tick}
 use Rattle.event.specs.Run.{Given, givenStep}
 
--- the same event with the same bytes beside it, or a T event for the same zone that is hotter in the second; missing is hottest
+-- the same event with the same bytes beside it, or a T or U for the same zone whose temperature is hotter in the second, or equal, in
+-- sixteenths; missing is hottest. 02, Q-7: "Demand 3 reads T and U alike, by the temperature they state": a T may stand against a U
 pub data Alike : Given → Given → Type 0 where
   same : (g : Given) → Alike g g
-  hotter : (zone : ℕ) (bytes : List ℕ) {r s : Reading} → NoHotter r s → Alike (record { event = Temperature zone r; bytes = bytes }) (record { event = Temperature zone s; bytes = bytes })
+  hotter : (zone : ℕ) (bytes : List ℕ) {r s : Stated} → NoHotter (statedReading r) (statedReading s) → Alike (record { event = Temperature zone r; bytes = bytes }) (record { event = Temperature zone s; bytes = bytes })
 
 -- alike place by place
 pub data AllAlike : List Given → List Given → Type 0 where

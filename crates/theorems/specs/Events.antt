@@ -47,7 +47,7 @@ module _ (c : Chip) {zs : List Zone} {x : Drive} (z : ZonesCooler (c .zones) zs)
   unfolding withZone
   zone-under i p = same-but (zones-set z i p) n
 
-  -- T, the one event that may differ: 31h, which can shut zone 3 to it, is the same
+  -- T and U, the one event that may differ: 31h, which can shut zone 3 to it, is the same
   pub temperature-under : (zone : ℕ) {r s : Reading} → NoHotter r s → Under (tookTemperature c zone r) (tookTemperature d zone s)
   unfolding tookTemperature registerAt
   temperature-under zone p =

@@ -42,11 +42,11 @@ pub data Gives : Event → Type 0 where
   fan : (number : ℕ) (n : Count) → Gives (Fan number n)
   neither : {e : Event} → ((c : Chip) (bytes : List ℕ) → SameGauges c (takenStep c e bytes .chip)) → Gives e
 
--- T, H, A, K, X, W, R, G and P leave them
+-- T, U, H, A, K, X, W, R, G and P leave them
 pub gives : (e : Event) → Gives e
 unfolding takenStep quietStep tickAnswer writtenAnswer readAnswer seenBlockAnswer writtenBlockAnswer after afterAll
-gives (Temperature zone r) =
-    neither (λ c bytes. let k = temperature-keeps c (zone - 1) r in record { volts = k .volts; erring = k .erring; fans = k .fans })
+gives (Temperature zone s) =
+    neither (λ c bytes. let k = temperature-keeps c (zone - 1) _ in record { volts = k .volts; erring = k .erring; fans = k .fans })
 gives (Voltage channel n) = volt channel n
 gives (Fan number n) = fan number n
 gives (Hot input level) = neither (λ c bytes. let k = hot-keeps c (input - 1) _ in record { volts = k .volts; erring = k .erring; fans = k .fans })

@@ -3,6 +3,7 @@ pub mod Beside
 pub mod Events
 pub mod Steps
 pub mod Hotter
+pub mod HotterCases
 pub mod Taken
 pub mod Gauges
 pub mod ShownBytes
@@ -16,6 +17,7 @@ pub mod ZoneWrites
 pub mod BoundTables
 pub mod ZoneReadings
 pub mod FollowedZones
+pub mod HeldReadings
 pub mod MissingZones
 pub mod UnreadFans
 pub mod WholeCounts

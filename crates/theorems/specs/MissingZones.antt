@@ -101,7 +101,7 @@ unfolding chipAfter
 stays-missing none m = m
 stays-missing {z} {c} (more {g = g} n u) m = stays-missing u (step-lost c z m g n)
 
--- From power-on a zone is missing until a T that is heard, a V above 0 that feeds it, a whole-byte write other than 80h that takes effect, or a
--- block write one of whose bytes is such a write.
+-- From power-on a zone is missing until a T or U that is heard, a V above 0 that feeds it, a whole-byte write other than 80h that takes effect,
+-- or a block write one of whose bytes is such a write.
 pub missing-until : (s : Setup) (z : ℕ) (gs : List Given) → NeverGiven z (powerOn s) gs → zoneAt (chipAfter (powerOn s) gs) z ≡ Missing
 missing-until s z gs u = stays-missing u (power-lost s z)

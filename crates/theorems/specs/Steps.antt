@@ -7,6 +7,7 @@ use lib.Dec.{eqb}
 use Rattle.laws.specs.Pointwise.{pick-related}
 use Rattle.map.specs.declared.Block.{Block}
 use Rattle.map.specs.declared.Block.the-variants.{Unlisted, Fixed}
+use Rattle.temperature.specs.Temperature.{statedReading}
 use Rattle.temperature.specs.Order.{no-hotter-refl}
 use Rattle.state.specs.declared.Chip.{Chip}
 use Rattle.state.specs.declared.Drive.{Drive}
@@ -104,7 +105,7 @@ module _ (c : Chip) {zs : List Zone} {x : Drive} (v : Valid (c .setup)) (z : Zon
   -- each event, taken by both
   taken-rises : (e : Event) (bytes : List ℕ) → Rises (takenStep c e bytes) (takenStep d e bytes)
   unfolding steppedChip refusalOf eventIn takenStep writtenAnswer readAnswer seenBlockAnswer writtenBlockAnswer
-  taken-rises (Temperature zone r) bytes = quiet-rises (temperature-under c z n (zone - 1) (no-hotter-refl r))
+  taken-rises (Temperature zone s) bytes = quiet-rises (temperature-under c z n (zone - 1) (no-hotter-refl (statedReading s)))
   taken-rises (Voltage channel count) bytes = quiet-rises (voltage-under c z n (channel - 1) count)
   taken-rises (Fan fan count) bytes = quiet-rises (fan-under c z n (fan - 1) count)
   taken-rises (Hot input level) bytes = quiet-rises (hot-under c z n (input - 1) _)
@@ -123,12 +124,12 @@ module _ (c : Chip) {zs : List Zone} {x : Drive} (v : Valid (c .setup)) (z : Zon
   same-rises g =
       pick-related Rises (eqb (refusalOf (g .event) (g .bytes)) 0) (taken-rises (g .event) (g .bytes)) (refused-rises (refusalOf (g .event) (g .bytes)) (itself c z n))
 
-  -- alike events: the same, or a T event that is hotter for the second
+  -- alike events: the same, or a T or U that is hotter for the second
   alike-rises : {g h : Given} → Alike g h → NotRefused c g → NotRefused d h → Rises (givenStep c g) (givenStep d h)
   unfolding takenStep
   alike-rises (same g) p q = same-rises g
   alike-rises (hotter zone bytes {r} {s} t) p q =
-      rw (not-refused-taken c _ p, not-refused-taken d _ q) (quiet-rises (temperature-under c z n (zone - 1) {r = r} {s = s} t))
+      rw (not-refused-taken c _ p, not-refused-taken d _ q) (quiet-rises (temperature-under c z n (zone - 1) {r = statedReading r} {s = statedReading s} t))
 
 -- alike events, not refused, of any two chips of which the first is no hotter
 pub steps-rise : {c d : Chip} {g h : Given} → Valid (c .setup) → Under c d → Alike g h → NotRefused c g → NotRefused d h → Rises (givenStep c g) (givenStep d h)

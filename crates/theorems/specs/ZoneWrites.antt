@@ -1,12 +1,10 @@
--- What byte writes and block writes leave of the zones: one that is missing stays so unless a byte that takes effect gives it a reading.
--- Assumes nothing.
+-- What byte writes and block writes leave of a zone: what its reading has, P, it has behind them, if what they give it has it and if a written
+-- half bit leaves it. Assumes nothing.
 use mathlib.Core.Path.{_≡_, refl, ap, _∙_}
 use mathlib.Core.Bool.{Bool, true, false, not}
 use mathlib.Core.List.{List}
 use Prim.Native.Nat.{ℕ, _+_, _-_, _<_}
-use borrow.Author.Tests.{eqb-false}
-use lib.Dec.{T, eqb}
-use lib.IntN.{pos, _*ℤ_}
+use lib.Dec.{T}
 use lib.ListN.{length, getD}
 use Rattle.laws.specs.Pick.{pick}
 use Rattle.laws.specs.Store.{set-cases}
@@ -18,8 +16,7 @@ use Rattle.map.specs.Map.{homeOf}
 use Rattle.map.specs.Kind.{kindOf}
 use Rattle.map.specs.Blocks.{blockOf}
 use Rattle.temperature.specs.declared.Reading.{Reading}
-use Rattle.temperature.specs.declared.Reading.the-variants.{Taken, Missing}
-use Rattle.temperature.specs.Temperature.{degreesOf, readingOf, withHalf}
+use Rattle.temperature.specs.Temperature.{readingOf, withHalf}
 use Rattle.state.specs.declared.Chip.{Chip}
 use Rattle.state.specs.declared.Zone.{Zone}
 use Rattle.state.specs.Parts.{noZone, registerAt, zoneAt}
@@ -29,12 +26,8 @@ use Rattle.bus.specs.Latch.{isOurs, transacted}
 use Rattle.bus.specs.Write.{stored, cleared, zoneWritable, changeWhole, changeHalf, changeKind, isShut, changeHome, changeOf, changed, wroteRegister, Written, wroteByte}
 use Rattle.bus.specs.Block.{wroteBlock}
 use Rattle.bus.specs.Blocks.{block-keeps}
-use Rattle.theorems.specs.Zones.{sourceOf, lockOf, WritesZone}
+use Rattle.theorems.specs.Zones.{sourceOf, lockOf, Reaches}
 use Rattle.theorems.specs.BlockPlaces.{Apart, blocks-apart, write-leaves}
-
--- zone z of a chip is missing
-abbrev pub Lost : ℕ → Chip → Type 0
-Lost z d = zoneAt d z ≡ Missing
 
 -- a choice has what its first arm has where the test holds, and its second else
 pub pick-where : {A : Type 0} (P : A → Type 0) (t : Bool) {a b : A} → (T t → P a) → P b → P (pick t a b)
@@ -45,72 +38,73 @@ pick-unless : {A : Type 0} (P : A → Type 0) (t : Bool) {a b : A} → P a → (
 pick-unless P true p f = p
 pick-unless P false p f = f tt
 
--- a byte is a missing reading unless it is other than 80h
-not-80h : (byte : ℕ) → ((byte ≡ 0x80 → ⊥) → ⊥) → readingOf byte ≡ Missing
-unfolding readingOf
-not-80h byte none = go (eqb byte 0x80) refl
-  where
-    go : (t : Bool) → eqb byte 0x80 ≡ t → pick t Missing (Taken (degreesOf byte *ℤ pos 2)) ≡ Missing
-    go true e = refl
-    go false e = absurd (none (eqb-false byte 0x80 e))
+-- a half bit written leaves P
+abbrev pub HalfKeeps : (Reading → Type 0) → Type 0
+HalfKeeps P = (half : Bool) (r : Reading) → P r → P (withHalf r half)
 
-module _ (c : Chip) (z : ℕ) (m : Lost z c) where
-  -- a zone gets a reading: another zone, or a missing one
-  pub set-lost : (i : ℕ) (r : Reading) → (i ≡ z → r ≡ Missing) → Lost z (withZone c i r)
+module _ (P : Reading → Type 0) (z : ℕ) where
+  -- the reading of zone z has P
+  abbrev pub Has : Chip → Type 0
+  Has d = P (zoneAt d z)
+
+module _ {P : Reading → Type 0} (h : HalfKeeps P) (z : ℕ) (c : Chip) (m : Has P z c) where
+  -- a zone gets a reading: another zone, or one that has P
+  pub set-has : (i : ℕ) (r : Reading) → (i ≡ z → P r) → Has P z (withZone c i r)
   unfolding withZone zoneAt
-  set-lost i r own = set-cases (λ (w : Zone). w .reading ≡ Missing) (c .zones) i z (record { reading = r }) noZone m own
+  set-has i r own = set-cases (λ (w : Zone). P (w .reading)) (c .zones) i z (record { reading = r }) noZone m own
 
-  -- W, by the register's kind: a whole byte gives its zone a reading, a half bit gives a missing zone none
-  kind-lost : (home byte : ℕ) (k : Kind) → (k ≡ Whole z → T (zoneWritable (sourceOf c) z) → readingOf byte ≡ Missing) → Lost z (changed c (changeKind c home byte k))
-  unfolding changed changeKind stored cleared changeWhole changeHalf withRegister withHalf zoneAt
-  kind-lost home byte Plain own = m
-  kind-lost home byte Status own = m
-  kind-lost home byte (Whole i) own =
-      pick-where (λ (d : Change). Lost z (changed c d)) (zoneWritable (sourceOf c) i) (λ t. set-lost i (readingOf byte) (λ e. own (ap Whole e) (rw (← e) t))) m
-  kind-lost home byte (Half i) own =
-      pick-where (λ (d : Change). Lost z (changed c d)) (zoneWritable (sourceOf c) i) (λ t. set-lost i _ (λ e. rw (e, m))) m
-  kind-lost home byte (Volt i) own = m
-  kind-lost home byte (FanLow i) own = m
-  kind-lost home byte (FanHigh i) own = m
-  kind-lost home byte (VoltLow i) own = m
-  kind-lost home byte (VoltHigh i) own = m
-  kind-lost home byte (FanLimitLow i) own = m
-  kind-lost home byte (FanLimitHigh i) own = m
+  -- W, by the register's kind: a whole byte gives its zone a reading
+  kind-has : (home byte : ℕ) (k : Kind) → (k ≡ Whole z → T (zoneWritable (sourceOf c) z) → P (readingOf byte)) → Has P z (changed c (changeKind c home byte k))
+  unfolding changed changeKind stored cleared changeWhole changeHalf withRegister zoneAt
+  kind-has home byte Plain own = m
+  kind-has home byte Status own = m
+  kind-has home byte (Whole i) own =
+      pick-where (λ (d : Change). Has P z (changed c d)) (zoneWritable (sourceOf c) i) (λ t. set-has i (readingOf byte) (λ e. own (ap Whole e) (rw (← e) t))) m
+  kind-has home byte (Half i) own =
+      pick-where (λ (d : Change). Has P z (changed c d)) (zoneWritable (sourceOf c) i) (λ t. set-has i _ (λ e. h _ _ (rw e m))) m
+  kind-has home byte (Volt i) own = m
+  kind-has home byte (FanLow i) own = m
+  kind-has home byte (FanHigh i) own = m
+  kind-has home byte (VoltLow i) own = m
+  kind-has home byte (VoltHigh i) own = m
+  kind-has home byte (FanLimitLow i) own = m
+  kind-has home byte (FanLimitHigh i) own = m
 
   -- W, at a register's own address or a mirror's
-  register-lost : (a byte : ℕ) → (WritesZone (sourceOf c) (lockOf c) z a byte → ⊥) → Lost z (wroteRegister c a byte)
+  register-has : (a byte : ℕ) → (Reaches (sourceOf c) (lockOf c) z a → P (readingOf byte)) → Has P z (wroteRegister c a byte)
   unfolding wroteRegister changed changeOf changeHome
-  register-lost a byte none =
-      pick-unless (λ (d : Change). Lost z (changed c d)) (isShut (lockOf c) (homeOf a)) m
-      (λ t. kind-lost (homeOf a) byte (kindOf (homeOf a)) (λ k w. not-80h byte (λ n. none (record { whole = k; unshut = t; writable = w; other = n }))))
+  register-has a byte own =
+      pick-unless (λ (d : Change). Has P z (changed c d)) (isShut (lockOf c) (homeOf a)) m
+      (λ t. kind-has (homeOf a) byte (kindOf (homeOf a)) (λ k w. own (record { whole = k; unshut = t; writable = w })))
 
--- zone z is missing in d, and 31h and E3h are those of c
-record Still (c : Chip) (z : ℕ) (d : Chip) : Type 0 where
-  lost : Lost z d
+-- zone z has P in d, and 31h and E3h are those of c
+record Still (P : Reading → Type 0) (z : ℕ) (c d : Chip) : Type 0 where
+  has : Has P z d
   source : sourceOf d ≡ sourceOf c
   lock : lockOf d ≡ lockOf c
 
--- a byte of a block
-byte-still : (c : Chip) (z : ℕ) (d : Chip) (a byte : ℕ) → Apart a → (WritesZone (sourceOf c) (lockOf c) z a byte → ⊥) → Still c z d → Still c z (wroteRegister d a byte)
-byte-still c z d a byte p none s = record {
-  lost = register-lost d z (s .lost) a byte (rw (s .source, s .lock) none);
-  source = write-leaves d a byte TEMPERATURE-SOURCE-SELECT (p .source) ∙ s .source;
-  lock = write-leaves d a byte CONFIGURATION (p .lock) ∙ s .lock;
-}
+module _ {P : Reading → Type 0} (h : HalfKeeps P) (z : ℕ) (c : Chip) where
+  -- a byte of a block
+  byte-still : (d : Chip) (a byte : ℕ) → Apart a → (Reaches (sourceOf c) (lockOf c) z a → P (readingOf byte)) → Still P z c d → Still P z c (wroteRegister d a byte)
+  byte-still d a byte p own s = record {
+    has = register-has h z d (s .has) a byte (rw (s .source, s .lock) own);
+    source = write-leaves d a byte TEMPERATURE-SOURCE-SELECT (p .source) ∙ s .source;
+    lock = write-leaves d a byte CONFIGURATION (p .lock) ∙ s .lock;
+  }
 
-module _ (c : Chip) (z : ℕ) (m : Lost z c) where
-  -- W
-  pub write-lost : (address a byte : ℕ) → (T (isOurs (transacted c address .pin .latch) address) → WritesZone (sourceOf c) (lockOf c) z a byte → ⊥) → Lost z (wroteByte c address a byte .chip)
-  unfolding wroteByte transacted zoneAt registerAt
-  write-lost address a byte none =
-      pick-where (λ (w : Written). Lost z (w .chip)) (isOurs (transacted c address .pin .latch) address)
-      (λ t. register-lost (transacted c address) z m a byte (none t)) m
+  module _ (m : Has P z c) where
+    -- W
+    pub write-has : (address a byte : ℕ) → (T (isOurs (transacted c address .pin .latch) address) → Reaches (sourceOf c) (lockOf c) z a → P (readingOf byte)) → Has P z (wroteByte c address a byte .chip)
+    unfolding wroteByte transacted zoneAt registerAt
+    write-has address a byte own =
+        pick-where (λ (w : Written). Has P z (w .chip)) (isOurs (transacted c address .pin .latch) address)
+        (λ t. register-has h z (transacted c address) m a byte (own t)) m
 
-  -- P
-  pub block-lost : (address command : ℕ) (bytes : List ℕ) → ((first k : ℕ) → T (isOurs (transacted c address .pin .latch) address) → blockOf command ≡ Fixed first (length bytes) → k < length bytes → WritesZone (sourceOf c) (lockOf c) z (first + k) (getD bytes k 0) → ⊥) → Lost z (wroteBlock c address command bytes .chip)
-  unfolding transacted zoneAt registerAt
-  block-lost address command bytes none =
-      block-keeps c address command bytes (Still c z) (λ a byte. Apart a × (WritesZone (sourceOf c) (lockOf c) z a byte → ⊥))
-      (λ first ours listed i h. (blocks-apart command listed i h, none first i (rw ours tt) listed h))
-      (record { lost = m; source = refl; lock = refl })
-      (λ d a byte q. byte-still c z d a byte (q .0) (q .1)) .lost
+    -- P
+    pub block-has : (address command : ℕ) (bytes : List ℕ) → ((first k : ℕ) → T (isOurs (transacted c address .pin .latch) address) → blockOf command ≡ Fixed first (length bytes) → k < length bytes → Reaches (sourceOf c) (lockOf c) z (first + k) → P (readingOf (getD bytes k 0))) → Has P z (wroteBlock c address command bytes .chip)
+    unfolding transacted zoneAt registerAt
+    block-has address command bytes own =
+        block-keeps c address command bytes (Still P z c) (λ a byte. Apart a × (Reaches (sourceOf c) (lockOf c) z a → P (readingOf byte)))
+        (λ first ours listed i l. (blocks-apart command listed i l, own first i (rw ours tt) listed l))
+        (record { has = m; source = refl; lock = refl })
+        (λ d a byte q. byte-still d a byte (q .0) (q .1)) .has

@@ -15,11 +15,14 @@ use Rattle.map.specs.Map.{homeOf}
 use Rattle.map.specs.Bits.{isSet}
 use Rattle.map.specs.Kind.{kindOf}
 use Rattle.map.specs.Blocks.{blockOf}
+use Rattle.temperature.specs.declared.Reading.{Reading}
 use Rattle.temperature.specs.declared.Reading.the-variants.{Taken, Missing}
+use Rattle.temperature.specs.declared.Stated.{Stated}
+use Rattle.temperature.specs.Temperature.{statedReading, readingOf}
 use Rattle.state.specs.declared.Chip.{Chip}
-use Rattle.state.specs.declared.Count.the-variants as count
+use Rattle.state.specs.declared.Count.{Count}
 use Rattle.state.specs.Parts.{registerAt, zoneAt}
-use Rattle.sense.specs.Events.{zoneHeard, feedsThree, feedsFour}
+use Rattle.sense.specs.Events.{zoneHeard, voltReading, feedsThree, feedsFour}
 use Rattle.bus.specs.Latch.{isOurs, transacted}
 use Rattle.bus.specs.Write.{zoneWritable, isShut}
 use Rattle.event.specs.declared.Event.{Event}
@@ -59,21 +62,25 @@ pub data Feeds (source channel : ℕ) : ℕ → Type 0 where
   three : T (feedsThree source channel) → Feeds source channel 4
   four : T (feedsFour source channel) → Feeds source channel 5
 
--- a byte that is written at an address gives zone z a reading, by what 31h and E3h hold: the address is that of its whole byte or of a
--- mirror, LOCK does not shut it, the zone is writable, and the byte is not 80h
-pub record WritesZone (source lock z a byte : ℕ) : Type 0 where
+-- a byte that is written at an address reaches zone z, by what 31h and E3h hold: the address is that of its whole byte or of a mirror, LOCK
+-- does not shut it, and the zone is writable
+pub record Reaches (source lock z a : ℕ) : Type 0 where
   pub whole : kindOf (homeOf a) ≡ Whole z
   pub unshut : T (not (isShut lock (homeOf a)))
   pub writable : T (zoneWritable source z)
-  pub other : byte ≡ 0x80 → ⊥
 
--- an event, with the bytes beside it, gives zone z a reading: a T that is heard, a V above 0 that feeds it, a whole-byte write other than 80h
--- that takes effect, or a block write, for our address and with the listed count, one of whose bytes is such a write. No block has 31h or E3h
--- in it, so every byte finds there what the block found
-pub data GivesZone (c : Chip) (z : ℕ) : Event → List ℕ → Type 0 where
-  heard : {h : ℤ} {bytes : List ℕ} → T (zoneHeard (sourceOf c) z) → GivesZone c z (Temperature (suc z) (Taken h)) bytes
-  fed : {channel n : ℕ} {bytes : List ℕ} → 0 < n → Feeds (sourceOf c) channel z → GivesZone c z (Voltage (suc channel) (count.Taken n)) bytes
-  written : {address a byte : ℕ} {bytes : List ℕ} → T (isOurs (transacted c address .pin .latch) address) → WritesZone (sourceOf c) (lockOf c) z a byte
-      → GivesZone c z (Write address a byte) bytes
+-- an event, with the bytes beside it, gives zone z a reading, taken or missing: a T or U that is heard, a V that feeds it, a whole byte that is
+-- written and takes effect, or a block write, for our address and with the listed count, one of whose bytes is such a byte. No block has 31h
+-- or E3h in it, so every byte finds there what the block found
+pub data Gives (c : Chip) (z : ℕ) : Event → List ℕ → Reading → Type 0 where
+  heard : {s : Stated} {bytes : List ℕ} → T (zoneHeard (sourceOf c) z) → Gives c z (Temperature (suc z) s) bytes (statedReading s)
+  fed : {channel : ℕ} {n : Count} {bytes : List ℕ} → Feeds (sourceOf c) channel z → Gives c z (Voltage (suc channel) n) bytes (voltReading n)
+  written : {address a byte : ℕ} {bytes : List ℕ} → T (isOurs (transacted c address .pin .latch) address) → Reaches (sourceOf c) (lockOf c) z a
+      → Gives c z (Write address a byte) bytes (readingOf byte)
   in-block : {address command first k : ℕ} {bytes : List ℕ} → T (isOurs (transacted c address .pin .latch) address) → blockOf command ≡ Fixed first (length bytes)
-      → k < length bytes → WritesZone (sourceOf c) (lockOf c) z (first + k) (getD bytes k 0) → GivesZone c z (WriteBlock address command) bytes
+      → k < length bytes → Reaches (sourceOf c) (lockOf c) z (first + k) → Gives c z (WriteBlock address command) bytes (readingOf (getD bytes k 0))
+
+-- one that is taken: of a T or U that is not `-`, a V above 0, a byte other than 80h
+pub record GivesZone (c : Chip) (z : ℕ) (e : Event) (bytes : List ℕ) : Type 0 where
+  pub count : ℤ
+  pub gives : Gives c z e bytes (Taken count)

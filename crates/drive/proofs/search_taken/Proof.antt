@@ -22,8 +22,8 @@ C c = tableFrom (c .args .base) (c .args .unit) (c .args .offsets .now) (c .args
 
 -- reading, hysteresis and their sum are far inside an i64
 module _ (c : tie.Start) where
-  h64 : SFits w64 (c .args .h)
-  h64 = sfits-widen tt (c .fits .h)
+  n64 : SFits w64 (c .args .n)
+  n64 = sfits-widen tt (c .fits .n)
 
   unit63 : c .args .unit < 2 ^ 63
   unit63 = omega arith
@@ -37,16 +37,16 @@ module _ (c : tie.Start) where
   rise64 : SFits w64 (pos (c .args .unit * c .args .hysteresis))
   rise64 = omega (arith, rise)
 
-  held64 : SFits w64 (c .args .h +ℤ pos (c .args .unit * c .args .hysteresis))
-  held64 = omega (arith, mag-plus (c .args .h) (c .args .unit * c .args .hysteresis), c .fits .h, rise)
+  held64 : SFits w64 (c .args .n +ℤ pos (c .args .unit * c .args .hysteresis))
+  held64 = omega (arith, mag-plus (c .args .n) (c .args .unit * c .args .hysteresis), c .fits .n, rise)
 
 -- base and reading are what their bits stand for, and the hysteresis has no part in the look upward
-up-is : (c : tie.After-look-up) → LooksUp (c .before .args .offsets .now) (up (C (c .before)) (c .before .args .old) (c .before .args .h)) (c .look-up .result)
+up-is : (c : tie.After-look-up) → LooksUp (c .before .args .offsets .now) (up (C (c .before)) (c .before .args .old) (c .before .args .n)) (c .look-up .result)
 unfolding thresholdReached
-up-is c = let s = c .before in simp (toZ-ofZ, s .fits .base, s .fits .h, h64 s) at (c .look-up .ensures)
+up-is c = let s = c .before in simp (toZ-ofZ, s .fits .base, s .fits .n, n64 s) at (c .look-up .ensures)
 
 cast-reading : tie.Need-cast-reading
-cast-reading c = simp (toZ-ofZ, c .fits .h) (h64 c)
+cast-reading c = simp (toZ-ofZ, c .fits .n) (n64 c)
 
 cast-held : tie.Need-cast-held
 cast-held c = search needs
@@ -58,7 +58,7 @@ mul-held : tie.Need-mul-held
 mul-held c = simp (toZ-pos, unit63 c, hysteresis63 c) (rise64 c)
 
 add-held : tie.Need-add-held
-add-held c = simp (toZ-ofZ, toZ-pos, c .fits .h, h64 c, unit63 c, hysteresis63 c, rise64 c) (held64 c)
+add-held c = simp (toZ-ofZ, toZ-pos, c .fits .n, n64 c, unit63 c, hysteresis63 c, rise64 c) (held64 c)
 
 look-up-requires : tie.Need-look-up-requires
 look-up-requires c κs = search needs
@@ -67,26 +67,26 @@ look-down-requires : tie.Need-look-down-requires
 look-down-requires c κs =
     let u = c .before .before in
     let s = u .before in
-    (look-inside (C s) (s .args .old) (s .args .h) (up-is u), omega (arith, up-is u .compared, look-within (C s) (s .args .old) (s .args .h)), up-is u .sum)
+    (look-inside (C s) (s .args .old) (s .args .n) (up-is u), omega (arith, up-is u .compared, look-within (C s) (s .args .old) (s .args .n)), up-is u .sum)
 
 returns : tie.Need-returns
 unfolding thresholdReached
 returns c =
     let u = c .before .before .before in
     let s = u .before in
-    let down = simp (toZ-ofZ, toZ-pos, s .fits .base, s .fits .h, h64 s, unit63 s, hysteresis63 s, rise64 s, held64 s) at (c .look-down .ensures) in
-    down ∙ search-stayed (C s) (s .args .old) (s .args .h) (up-is u) (c .before .if1 .taken)
+    let down = simp (toZ-ofZ, toZ-pos, s .fits .base, s .fits .n, n64 s, unit63 s, hysteresis63 s, rise64 s, held64 s) at (c .look-down .ensures) in
+    down ∙ search-stayed (C s) (s .args .old) (s .args .n) (up-is u) (c .before .if1 .taken)
 
 cast-t15 : tie.Need-cast-t15
 cast-t15 c =
     let u = c .before .before .before in
-    omega (arith, look-inside (C (u .before)) (u .before .args .old) (u .before .args .h) (up-is u))
+    omega (arith, look-inside (C (u .before)) (u .before .args .old) (u .before .args .n) (up-is u))
 
 returns-2 : tie.Need-returns-2
 returns-2 c =
     let u = c .before .before .before in
     let s = u .before in
-    search-moved (C s) (s .args .old) (s .args .h) (up-is u) (c .before .if1 .left)
+    search-moved (C s) (s .args .old) (s .args .n) (up-is u) (c .before .if1 .left)
 
 pub search-taken-spec : {M : Type 1} → statement M
 search-taken-spec =

@@ -15,7 +15,7 @@ use Rattle.bus.specs.Blocks.{wrote-from-by-parts}
 use Rattle.event.specs.Event.{eventIn, quietStep, refusedStep, tickAnswer, writtenAnswer, seenAnswer, readAnswer, blockAnswer, seenBlockAnswer, writtenBlockAnswer, takenStep}
 use Rattle.event.specs.Refusal.{step-refused}
 use Rattle.event.specs.Ticking.{tick-by-parts}
-use Rattle.event.proofs.Ranges.{place, passed, taken-step}
+use Rattle.event.proofs.Ranges.{place, stated-inside, passed, taken-step}
 use Rattle.event.proofs.step.Statement.{statement}
 use Rattle.event.proofs.step.Tie as tie
 
@@ -44,6 +44,12 @@ element-copy-out-source c = search needs
 hears-zone-requires : tie.Need-hears-zone-requires
 hears-zone-requires c κs = search needs
 
+stated-reading-requires : tie.Need-stated-reading-requires
+stated-reading-requires c κs =
+    let g = c .before .before .before .before in
+    let p = passed (g .before .before .before .is-taken .ensures) (g .before .before .if1 .taken) (g .event .given .1) in
+    stated-inside _ _ (p .inside)
+
 cast-z : tie.Need-cast-z
 cast-z c = search needs
 
@@ -53,7 +59,7 @@ mul-z c = search needs
 element-set-from-z : tie.Need-element-set-from-z
 unfolding eventIn
 element-set-from-z c =
-    let g = c .before .before .before .before in
+    let g = c .before .before .before .before .before in
     let p = passed (g .before .before .before .is-taken .ensures) (g .before .before .if1 .taken) (g .event .given .1) in
     let l = place 5 _ _ (p .inside) .below in omega arith
 
@@ -290,9 +296,10 @@ write-block-requires c κs = search needs
 returns : tie.Need-returns
 unfolding takenStep quietStep tookTemperature withZone registerAt
 returns c =
-    let g = c .before .before .before .before in
+    let h = c .before .before in
+    let g = h .before .before .before in
     let p = passed (g .before .before .before .is-taken .ensures) (g .before .before .if1 .taken) (g .event .given .1) in
-    taken-step p _ (rw (sym (c .before .hears-zone .ensures) ∙ c .if2 .taken))
+    taken-step p _ (rw (sym (h .hears-zone .ensures) ∙ c .before .if2 .taken, c .stated-reading .ensures))
 
 returns-2 : tie.Need-returns-2
 unfolding takenStep quietStep tookTemperature registerAt
@@ -465,6 +472,7 @@ step-spec =
     cast-source
     element-copy-out-source
     hears-zone-requires
+    stated-reading-requires
     cast-z
     mul-z
     element-set-from-z

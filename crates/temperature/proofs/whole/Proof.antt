@@ -2,9 +2,9 @@ use native.Mathlib.Omega.{arith}
 use lib.Signed.{shrZ}
 use mir.Facts.{toZ-ofZ}
 use borrow.Author.Needs.{needs}
-use Rattle.temperature.specs.Temperature.{wholeOf}
+use Rattle.temperature.specs.Temperature.{DEGREE, wholeOf}
 use Rattle.temperature.specs.Raised.{raised-byte}
-use Rattle.temperature.proofs.Fits.{half-fits}
+use Rattle.temperature.proofs.Fits.{degrees-fit}
 use Rattle.temperature.proofs.whole.Statement.{statement}
 use Rattle.temperature.proofs.whole.Tie as tie
 
@@ -17,9 +17,9 @@ cast-result c = search needs
 returns : tie.Need-returns
 unfolding wholeOf
 returns c =
-    let f = c .before .fits .h in
-    let g = half-fits f in
-    rw (c .raise .ensures, toZ-ofZ f, toZ-ofZ g) (raised-byte (shrZ (c .before .args .h) 2) (omega (arith, g)))
+    let f = c .before .fits .n in
+    let g = degrees-fit f in
+    rw (c .raise .ensures, toZ-ofZ f, toZ-ofZ g) (raised-byte (shrZ (c .before .args .n) DEGREE) (omega (arith, g)))
 
 pub whole-spec : {M : Type 1} → statement M
 whole-spec = tie.close (tie.spec raise-requires cast-result returns)
