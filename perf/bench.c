@@ -1,12 +1,16 @@
-// The jobs of the programs bench and searches as a plain C program, written from documents 01 and 02 and the
-// data sheet's register list for comparison: same input, same output. It shares nothing with the Rattle sources.
-// usage: bench < session | bench searches < searches: the second runs the step search of a table on cases, and counts the thresholds compared
+// The jobs of the programs bench and searches as a plain C program, written from documents 01 and 02 and
+// the data sheet's register list for comparison: same input, same output. It shares nothing with the Rattle sources.
+// usage: bench < session | bench searches < searches
+// The second runs the step search of a table on cases, and counts the thresholds compared.
 #include <stdint.h>
 #include <stdio.h>
 #include <string.h>
 #include <unistd.h>
 
 enum { MISSING = -1000000 };
+
+// "Zone readings are held in sixteenths, -2032 to 2040, and the tables and boosts compare them so."
+enum { DEGREE = 16, HALF = 8, COLDEST = -2032, HOTTEST = 2040 };
 
 // ---- the register map, from the data sheet: address or range, default, writable bits, lock mark
 
@@ -62,7 +66,7 @@ struct setup {
 struct chip {
     struct setup s;
     uint8_t reg[256];
-    int zone[6]; // 1a, 1b, 2a, 2b, 3, 4 in half degrees
+    int zone[6]; // 1a, 1b, 2a, 2b, 3, 4 in sixteenths
     int volt[16], in_error[16], fan[4], hot[4];
     int kept[4];        // the high byte of each fan's count that a read of its low byte kept, or MISSING for none
     int level, latched; // the pin; the slave address, or 0
@@ -135,9 +139,9 @@ static void take_volt(struct chip *c, int i, int n)
 {
     c->volt[i] = n;
     if (n != MISSING) compare_volt(c, i, n);
-    int source = c->reg[0x31], h = n == MISSING || n == 0 ? MISSING : 2 * (n - 128);
-    if (i == 10 && source & 0x01 && !(source & 0x10)) c->zone[4] = h;
-    if (i == 14 && source & 0x02) c->zone[5] = h;
+    int source = c->reg[0x31], reading = n == MISSING || n == 0 ? MISSING : DEGREE * (n - 128);
+    if (i == 10 && source & 0x01 && !(source & 0x10)) c->zone[4] = reading;
+    if (i == 14 && source & 0x02) c->zone[5] = reading;
 }
 
 static void take_fan(struct chip *c, int i, int n)
@@ -146,10 +150,10 @@ static void take_fan(struct chip *c, int i, int n)
     if (n != MISSING && n > fan_limit(c, i)) mark_fan(c, i);
 }
 
-static void take_temperature(struct chip *c, int zone, int h)
+static void take_temperature(struct chip *c, int zone, int reading)
 {
     if (zone == 4 && c->reg[0x31] & 0x11) return;
-    c->zone[zone] = h;
+    c->zone[zone] = reading;
 }
 
 // ---- the bus
@@ -181,7 +185,10 @@ static int half_zone(int a)
     return a == 0x20 ? 4 : a == 0x22 ? 5 : -1;
 }
 
-static int floor_half(int h) { return h >= 0 ? h / 2 : -((1 - h) / 2); }
+static int floor_degrees(int reading) { return reading >= 0 ? reading / DEGREE : -((DEGREE - 1 - reading) / DEGREE); }
+
+// "The half bit shows the reading rounded down to a half."
+static int half_bit(int reading) { return reading - DEGREE * floor_degrees(reading) >= HALF; }
 
 static int zone_open(const struct chip *c, int zone)
 {
@@ -192,10 +199,11 @@ static void write_register(struct chip *c, int a, int b)
 {
     int z;
     if (locked[a] && c->reg[0xE3] & 0x02) return;
+    // "A bus write of the whole byte sets the fraction to 0, of the half bit the rest to 0."
     if ((z = whole_zone(a)) >= 0) {
-        if (zone_open(c, z)) c->zone[z] = b == 0x80 ? MISSING : 2 * (b < 128 ? b : b - 256);
+        if (zone_open(c, z)) c->zone[z] = b == 0x80 ? MISSING : DEGREE * (b < 128 ? b : b - 256);
     } else if ((z = half_zone(a)) >= 0) {
-        if (zone_open(c, z) && c->zone[z] != MISSING) c->zone[z] = 2 * floor_half(c->zone[z]) + (b >> 7);
+        if (zone_open(c, z) && c->zone[z] != MISSING) c->zone[z] = DEGREE * floor_degrees(c->zone[z]) + HALF * (b >> 7);
     } else if (a >= 0x40 && a <= 0x4F) {
         c->reg[a] &= ~(b & writable[a]);
     } else {
@@ -206,8 +214,8 @@ static void write_register(struct chip *c, int a, int b)
 static int read_register(const struct chip *c, int a)
 {
     int z;
-    if ((z = whole_zone(a)) >= 0) return c->zone[z] == MISSING ? 0x80 : floor_half(c->zone[z]) & 0xFF;
-    if ((z = half_zone(a)) >= 0) return c->zone[z] != MISSING && c->zone[z] & 1 ? 0x80 : 0;
+    if ((z = whole_zone(a)) >= 0) return c->zone[z] == MISSING ? 0x80 : floor_degrees(c->zone[z]) & 0xFF;
+    if ((z = half_zone(a)) >= 0) return c->zone[z] != MISSING && half_bit(c->zone[z]) ? 0x80 : 0;
     if (a >= 0x56 && a <= 0x65) return c->volt[a - 0x56] == MISSING ? 0 : c->volt[a - 0x56];
     if (a >= 0x6E && a <= 0x75) {
         int n = c->fan[(a - 0x6E) / 2];
@@ -256,37 +264,37 @@ static void reset_pin(struct chip *c)
 
 static int hotter(int a, int b) { return a == MISSING || b == MISSING ? MISSING : a > b ? a : b; }
 
-// an int holds a threshold: none of a setup is above 1,766 half degrees, a base of 127 degrees and twelve offsets of 63
-static int reached(int base, int unit, const int *offset, int h)
+// an int holds a threshold: none of a setup is above 14,128 sixteenths, a base of 127 degrees and twelve offsets of 63
+static int reached(int base, int unit, const int *offset, int reading)
 {
-    int n = 0, threshold = 2 * base;
-    while (n < 12 && (threshold += unit * offset[n]) <= h) n++; // offsets are never negative
+    int n = 0, threshold = DEGREE * base;
+    while (n < 12 && (threshold += unit * offset[n]) <= reading) n++; // offsets are never negative
     return n;
 }
 
-// by document 01's numbers of thresholds, for a reading that is not missing; the unit is the half degrees that a count of the offsets and of
-// the hysteresis is; called and not inlined it would cost twenty-five instructions a tick more
-static inline __attribute__((always_inline)) int new_step(int base, int unit, const int *offset, int hysteresis, int old, int h)
+// by document 01's numbers of thresholds, for a reading that is not missing; the unit is the sixteenths that a count of the offsets and of
+// the hysteresis is; called and not inlined it would cost sixteen instructions a tick more
+static inline __attribute__((always_inline)) int new_step(int base, int unit, const int *offset, int hysteresis, int old, int reading)
 {
-    int now = reached(base, unit, offset, h);
+    int now = reached(base, unit, offset, reading);
     if (old <= now) return now;
-    int later = reached(base, unit, offset, h + unit * hysteresis);
+    int later = reached(base, unit, offset, reading + unit * hysteresis);
     return later < old ? later : old;
 }
 
 static int table_ask(struct chip *c, int table)
 {
-    int source = c->reg[0x31], bound = c->reg[0x35] >> (4 + table) & 1, h;
+    int source = c->reg[0x31], bound = c->reg[0x35] >> (4 + table) & 1, reading;
     if (table % 2 == 0)
-        h = !bound ? c->zone[4] : source & 0x04 ? hotter(c->zone[0], c->zone[1]) : c->zone[0];
+        reading = !bound ? c->zone[4] : source & 0x04 ? hotter(c->zone[0], c->zone[1]) : c->zone[0];
     else
-        h = !bound ? c->zone[5] : source & 0x08 ? hotter(c->zone[2], c->zone[3]) : c->zone[2];
-    if (h == MISSING) {
+        reading = !bound ? c->zone[5] : source & 0x08 ? hotter(c->zone[2], c->zone[3]) : c->zone[2];
+    if (reading == MISSING) {
         c->step[table] = 12;
         return 256;
     }
-    int unit = c->reg[0xBD] >> (table < 2 ? 4 : 5) & 1 ? 1 : 2, row = table / 2;
-    c->step[table] = new_step(c->s.base[table], unit, c->s.offset[row], c->s.hysteresis[row], c->step[table], h);
+    int unit = c->reg[0xBD] >> (table < 2 ? 4 : 5) & 1 ? HALF : DEGREE, row = table / 2;
+    c->step[table] = new_step(c->s.base[table], unit, c->s.offset[row], c->s.hysteresis[row], c->step[table], reading);
     return c->s.duty[c->step[table]];
 }
 
@@ -305,12 +313,12 @@ static void tick(struct chip *c, int output[2])
     int ask[4], any = 0;
     for (int t = 0; t < 4; t++) ask[t] = table_ask(c, t);
     for (int z = 0; z < 6; z++) {
-        int enabled = z == 1 ? c->reg[0x31] >> 2 & 1 : z == 3 ? c->reg[0x31] >> 3 & 1 : 1, b = c->s.boost[z], h = c->zone[z];
+        int enabled = z == 1 ? c->reg[0x31] >> 2 & 1 : z == 3 ? c->reg[0x31] >> 3 & 1 : 1, b = c->s.boost[z], reading = c->zone[z];
         if (!enabled || b == MISSING)
             c->boosted[z] = 0;
-        else if (h == MISSING || h >= 2 * b)
+        else if (reading == MISSING || reading >= DEGREE * b)
             c->boosted[z] = 1;
-        else if (h < 2 * (b - c->s.boost_hysteresis))
+        else if (reading < DEGREE * (b - c->s.boost_hysteresis))
             c->boosted[z] = 0;
         any |= c->boosted[z];
     }
@@ -438,7 +446,7 @@ static void put_no_byte(void)
     put_char('-');
 }
 
-// takes a line and prints its answer, or gives its refusal; called and not inlined it would cost nine instructions a line more
+// takes a line and prints its answer, or gives its refusal; called and not inlined it would cost five instructions a line more
 static inline __attribute__((always_inline)) int take_line(struct chip *c, int *begun, const unsigned char *line, int len)
 {
     const unsigned char *at = line + 1;
@@ -455,10 +463,13 @@ static inline __attribute__((always_inline)) int take_line(struct chip *c, int *
         power_on(c, &s);
         break;
     }
-    case 'T': case 'V': case 'F': case 'H':
+    case 'T': case 'U': case 'V': case 'F': case 'H':
         if ((i = decimal(&at)) == WRONG || (v = decimal(&at)) == WRONG || *at != '\n') return 4;
         if (line[0] == 'T') {
             if (!within(i, 1, 5) || !(v == DASH || within(v, -254, 255))) return 2;
+            take_temperature(c, i - 1, v == DASH ? MISSING : HALF * v);
+        } else if (line[0] == 'U') { // "A new letter U carries sixteenths for zones 1 to 5, under T's conditions; T keeps half degrees."
+            if (!within(i, 1, 5) || !(v == DASH || within(v, COLDEST, HOTTEST))) return 2;
             take_temperature(c, i - 1, v);
         } else if (line[0] == 'V') {
             if (!within(i, 1, 16) || !(v == DASH || within(v, 0, 255))) return 2;
@@ -609,11 +620,11 @@ static __attribute__((noinline)) int bench(void)
 // ---- searches
 
 struct table {
-    int base, unit, offset[12]; // in degrees; the half degrees that a count is; in counts
+    int base, unit, offset[12]; // in degrees; the sixteenths that a count is; in counts
 };
 
 struct search {
-    int old, reading, hysteresis; // a step, or more than 12; in half degrees, or MISSING; in counts
+    int old, reading, hysteresis; // a step, or more than 12; in sixteenths, or MISSING; in counts
 };
 
 struct found {
@@ -623,12 +634,12 @@ struct found {
 // "Threshold k (1 to 12) is base plus the first k offsets."
 static int threshold(const struct table *t, int k)
 {
-    int h = 2 * t->base;
-    for (int i = 0; i < k; i++) h += t->unit * t->offset[i];
-    return h;
+    int sum = DEGREE * t->base;
+    for (int i = 0; i < k; i++) sum += t->unit * t->offset[i];
+    return sum;
 }
 
-// document 02's walk; an int holds it: no threshold is above 780,554, no reading plus hysteresis above 97,792
+// document 02's walk; an int holds it: no threshold is above 782,332, no reading plus hysteresis above 97,792
 static struct found walk(const struct table *t, const struct search *s)
 {
     int start = s->old > 12 ? 12 : s->old;
@@ -678,7 +689,7 @@ static void put_search(const struct table *t, const struct search *s, const unsi
     }
 }
 
-// takes a title, a table of fourteen numbers or a search of three, and prints its answer, or gives its refusal; a tab stands before the line
+// takes a title, a table of fourteen numbers or a search of three, and prints its answer, or gives its refusal; a tab stands before it
 static int take_search_line(struct table *t, const unsigned char *line, int len)
 {
     const unsigned char *at = line - 1;
@@ -709,7 +720,7 @@ static int searches(void)
 {
     enum { MOST = 32768 };
     static unsigned char in[1 + MOST + 1]; // a byte before the first line; one behind the last, which may lack its line feed
-    struct table t = {30, 2, {2, 2, 2, 2, 2, 2, 2, 2, 2, 2, 2, 2}};
+    struct table t = {30, DEGREE, {2, 2, 2, 2, 2, 2, 2, 2, 2, 2, 2, 2}};
     unsigned char *line = in + 1, *end = in + 1, *feed;
     ssize_t n;
     while (end - line < MOST && (n = read(0, end, MOST - (end - line))) > 0) end += n;

@@ -2,14 +2,19 @@
 // usage: generate board | generate session SEED | generate base SEED | generate searches SEED
 // board: a board's forty minutes, 48,000 ticks, each after five temperatures, sixteen voltages, four fan counts and some bus reads, its
 // limits written first. session SEED: a session, valid or damaged, most often a short one, that the seed decides: setups with offsets up to
-// 63, right and wrong ones, and scenes of blocks, fan counts, voltages about their limits and temperatures about the tables' thresholds.
+// 63, right and wrong ones, and scenes of blocks, fan counts, voltages about their limits, temperatures in half degrees and in sixteenths,
+// right and wrong ones, about the tables' thresholds, the boosts, the halves, the whole degrees and the ends of their range, and bus writes
+// of a zone's bytes after them.
 // base SEED: one with the letters of document 01 alone.
-// searches SEED: tables, and step searches about their thresholds, valid or damaged, under 32,000 bytes, that the seed decides.
+// searches SEED: tables, and step searches a sixteenth about their thresholds, valid or damaged, under 32,000 bytes, that the seed decides.
 // The board and the base sessions never change, so that counts made on them can be held against each other.
 #include <stdint.h>
 #include <stdio.h>
 #include <stdlib.h>
 #include <string.h>
+
+// of temperatures, which are in sixteenths where nothing else is said: a degree, a half, the ends of a zone's range; none
+enum { DEGREE = 16, HALF = 8, COLDEST = -2032, HOTTEST = 2040, MISSING = 100000 };
 
 static uint64_t state;
 
@@ -66,8 +71,9 @@ static void byte(int b)
     field(t);
 }
 
-static const int telling[] = {0x31, 0x31, 0x31, 0x35, 0x35, 0xBD, 0xBF, 0xBF, 0xE3, 0xE4, 0x20, 0x21, 0x22, 0x23, 0x52, 0x53, 0x41, 0x42, 0x47,
-                              0x49, 0x4A, 0x4F, 0xB4, 0xB5, 0xB6, 0xB7, 0xBA, 0xBB, 0x90, 0x91, 0x9C, 0x9D, 0xA4, 0xA5, 0xAC, 0xAE, 0xAF};
+static const int telling[] = {0x31, 0x31, 0x31, 0x35, 0x35, 0xBD, 0xBF, 0xBF, 0xE3, 0xE4, 0x20, 0x21, 0x22, 0x23, 0x52, 0x53, 0x41, 0x42,
+                              0x47, 0x49, 0x4A, 0x4F, 0xB4, 0xB5, 0xB6, 0xB7, 0xBA, 0xBB, 0x90, 0x91, 0x9C, 0x9D, 0xA4, 0xA5, 0xAC, 0xAE,
+                              0xAF};
 
 static int some_register(void) { return one_in(3) ? below(256) : telling[below(sizeof telling / sizeof telling[0])]; }
 
@@ -161,6 +167,23 @@ static void event_line(int which)
         byte(some_address());
         byte(some_register());
     }
+}
+
+static void sixteenths_line(void)
+{
+    static const int ends[] = {COLDEST - 1, COLDEST, HOTTEST, HOTTEST + 1};
+    int n = HALF * some_half_degrees();
+    n += between(-HALF, HALF);
+    add("U");
+    number(one_in(25) ? between(-1, 7) : between(1, 5));
+    number_or_dash(one_in(16) ? ends[below(4)] : n, 10);
+}
+
+// an event of a session with scenes: every other temperature is in sixteenths
+static void some_event_line(int which)
+{
+    if (which < V && one_in(2)) sixteenths_line();
+    else event_line(which);
 }
 
 // ---- blocks
@@ -540,11 +563,14 @@ static int some_hysteresis(void)
     return one_in(2) ? ends[below(4)] : below(16);
 }
 
-// a setup by whose duties each step of a table is seen; one in four has no offset above 15
+static int some_boost(void) { return one_in(16) ? end_base() : one_in(5) ? between(-127, 127) : between(-80, 80); }
+
+// a setup by whose duties each step of a table is seen, and each boost; one in four has no offset above 15, two in three have next to no
+// boosts
 static void table_setup_line(void)
 {
     int duty = below(12), table = below(4), other = (table + between(1, 3)) % 4, two = one_in(4), narrow = one_in(4), hot, override;
-    int row[2][12], wide[2];
+    int row[2][12], wide[2], boosts = one_in(3);
     for (int i = 0; i < 2; i++) {
         wide[i] = !narrow && !one_in(6);
         if (wide[i]) wide_row(row[i]);
@@ -560,10 +586,10 @@ static void table_setup_line(void)
         duty += between(1, 20);
     }
     for (int i = 0; i < 6; i++) {
-        if (one_in(30)) number(between(-127, 127));
+        if (one_in(boosts ? 2 : 30)) number(some_boost());
         else field("-");
     }
-    number(below(16));
+    number(some_hysteresis());
     for (int i = 0; i < 2; i++) {
         hot = one_in(8) ? below(16) : 0;
         number(1 << (i ? other : table) | (two ? 1 << below(4) : 0) | hot << 4);
@@ -604,31 +630,34 @@ static void guess_plain_setup(void)
 {
     for (int i = 0; i < 4; i++) setup[BASES + i] = 30;
     for (int i = OFFSETS; i < DUTIES; i++) setup[i] = 2;
+    for (int i = 0; i < 6; i++) setup[BOOSTS + i] = MISSING;
+    setup[BOOST_HYSTERESIS] = 3;
     setup[BINDINGS] = 17;
     setup[BINDINGS + 1] = 4;
 }
 
-// half degrees for one of the table's offsets or hysteresis
-static int unit(int table) { return held[0xBD] >> (4 + table / 2) & 1 ? 1 : 2; }
+// for one of the table's offsets or hysteresis
+static int unit(int table) { return held[0xBD] >> (4 + table / 2) & 1 ? HALF : DEGREE; }
 
 static int threshold(int table, int k)
 {
-    int sum = 2 * setup[BASES + table];
+    int sum = DEGREE * setup[BASES + table];
     for (int i = 0; i < k; i++) sum += unit(table) * setup[OFFSETS + 12 * (table / 2) + i];
     return sum;
 }
 
 static int hysteresis(int table) { return unit(table) * setup[HYSTERESES + table / 2]; }
 
-enum { COLDEST = -254, HOTTEST = 255, MISSING = 100000 };
+static int within_reach(int n) { return clamp(n, COLDEST, HOTTEST); }
 
-static int within_reach(int h) { return clamp(h, COLDEST, HOTTEST); }
+// most often a sixteenth
+static int a_little(void) { return one_in(2) ? 1 : one_in(2) ? HALF : between(2, HALF + 1); }
 
-// how many thresholds are not above h; none is below the coldest reading
-static int thresholds_to(int table, int h)
+// how many thresholds are not above a reading; none is below the coldest
+static int thresholds_to(int table, int reading)
 {
     int n = 0;
-    while (n < 12 && threshold(table, n + 1) <= h) n++;
+    while (n < 12 && threshold(table, n + 1) <= reading) n++;
     return n;
 }
 
@@ -644,7 +673,7 @@ static int threshold_in_reach(int table)
 static int above_thresholds_in_reach(int table)
 {
     int n = thresholds_to(table, HOTTEST);
-    return n < 12 && !one_in(3) ? HOTTEST : threshold(table, n) + below(60);
+    return n < 12 && !one_in(3) ? HOTTEST : threshold(table, n) + (one_in(3) ? below(HALF) : HALF * below(60));
 }
 
 // if the hysteresis reaches over the next threshold, too
@@ -661,10 +690,18 @@ static int crowded_threshold(int table)
     return k;
 }
 
+// one that lies beside the whole degrees where the table counts in halves
+static int odd_threshold(int table)
+{
+    int k = threshold_in_reach(table);
+    for (int i = 0; i < 8 && degrees(setup + OFFSETS + 12 * (table / 2), k, 0) % 2 == 0; i++) k = threshold_in_reach(table);
+    return k;
+}
+
 static int table_corner(int table, int k)
 {
-    int up = threshold(table, k), down = up - hysteresis(table);
-    int corners[] = {up - 1, up, up + 1, down - 1, down, down + 1};
+    int up = threshold(table, k), down = up - hysteresis(table), little = a_little();
+    int corners[] = {up - little, up, up + little, down - little, down, down + little};
     return corners[below(6)];
 }
 
@@ -690,52 +727,70 @@ static void due_line(void)
     due_len = 0;
 }
 
-// zones as in a setup: 1a, 1b, 2a, 2b, 3, 4
-static void temperature(int zone, int h)
+// zones as in a setup: 1a, 1b, 2a, 2b, 3, 4; by U, or by T where it can state the reading, every other time
+static void temperature(int zone, int n)
 {
-    add("T");
+    int halves = (n == MISSING || n % HALF == 0) && one_in(2);
+    add(halves ? "T" : "U");
     number(zone + 1);
-    if (h == MISSING) field("-");
-    else number(h);
+    if (n == MISSING) field("-");
+    else number(halves ? n / HALF : n);
 }
 
-// zone 3 or 4
-static void zone_by_bus(int zone, int h)
+static int whole_register(int zone)
 {
-    int nth = zone - 4;
-    if (h != MISSING && h & 1) {
-        write_own(0x20 + 2 * nth, 0x80 | below(128));
+    static const int registers[][2] = {{0x50, 0x11}, {0x06, 0x13}, {0x51, 0x15}, {0x07, 0x17}, {0x52, 0x21}, {0x53, 0x23}};
+    return registers[zone][below(2)];
+}
+
+static int half_register(int zone) { return zone < 4 ? 0x10 + 2 * zone : 0x20 + 2 * (zone - 4); }
+
+static int floor_degrees(int n) { return (n - COLDEST) / DEGREE + COLDEST / DEGREE; }
+
+static int half_bit(int n) { return (n - COLDEST) % DEGREE >= HALF; }
+
+// zone 3 or 4, to a reading rounded down to a half
+static void zone_by_bus(int zone, int n)
+{
+    if (n != MISSING && half_bit(n)) {
+        write_own(half_register(zone), 0x80 | below(128));
         put_off();
     }
-    write_own(one_in(2) ? 0x52 + nth : 0x21 + 2 * nth, h == MISSING ? 0x80 : h >> 1);
+    write_own(whole_register(zone), n == MISSING ? 0x80 : floor_degrees(n));
 }
 
-static void zone_by_volt(int zone, int h)
+static void zone_by_volt(int zone, int n)
 {
     volt_event(zone == 4 ? 10 : 14);
-    if (h == MISSING && one_in(2)) field("-");
-    else number(h == MISSING ? 0 : (h >> 1) + 128);
+    if (n == MISSING && one_in(2)) field("-");
+    else number(n == MISSING ? 0 : floor_degrees(n) + 128);
 }
 
-// one of the two has the reading, the other most often a lower one
-static void zone_of_two(int zone, int h)
+// gives a zone this reading, as near as the way in that is open to it has it
+static void give(int zone, int n)
 {
-    int second = below(2), lower = one_in(12) ? MISSING : within_reach((h == MISSING ? 0 : h) - below(60));
-    temperature(zone + second, h);
+    int source = held[0x31];
+    if (n != MISSING) n = within_reach(n);
+    if (zone == 4 ? (source & 0x11) == 0x01 : zone == 5 && source & 0x02) zone_by_volt(zone, n);
+    else if (zone == 5 || (zone == 4 && source & 0x10)) zone_by_bus(zone, n);
+    else temperature(zone, n);
+}
+
+// one of the two has the reading, the other most often a lower one: by a sixteenth, by less than a degree or by more
+static void zone_of_two(int zone, int n)
+{
+    int second = below(2), less = one_in(2) ? 1 : one_in(2) ? between(1, DEGREE) : HALF * below(60);
+    give(zone + second, n);
     put_off();
-    temperature(zone + !second, lower);
+    give(zone + !second, one_in(12) ? MISSING : (n == MISSING ? 0 : within_reach(n)) - less);
 }
 
 // gives the zone that a table follows this reading, by two lines where one is not enough
-static void show(int table, int h)
+static void show(int table, int n)
 {
-    int source = held[0x31], second = table % 2, bound = held[0x35] >> (4 + table) & 1;
-    if (h != MISSING) h = within_reach(h);
-    if (bound && source & 0x04 << second) zone_of_two(2 * second, h);
-    else if (bound) temperature(2 * second, h);
-    else if (second ? source & 0x02 : (source & 0x11) == 0x01) zone_by_volt(4 + second, h);
-    else if (second || source & 0x10) zone_by_bus(4 + second, h);
-    else temperature(4, h);
+    int second = table % 2, bound = held[0x35] >> (4 + table) & 1;
+    if (bound && held[0x31] & 0x04 << second) zone_of_two(2 * second, n);
+    else give(bound ? 2 * second : 4 + second, n);
 }
 
 // one that the fan is bound to; any where it is bound to none
@@ -746,26 +801,80 @@ static int bound_table(int fan)
     return table;
 }
 
+// ---- zones
+
+// a zone's boost; of one without a boost, any temperature
+static int boost(int zone) { return DEGREE * (setup[BOOSTS + zone] == MISSING ? 30 : setup[BOOSTS + zone]); }
+
+// what a reading must be below for the boost to go off
+static int boost_end(int zone) { return boost(zone) - DEGREE * setup[BOOST_HYSTERESIS]; }
+
+// a whole degree, a half, an end of the range, or a sixteenth beside one; now and then any reading
+static int reading_corner(void)
+{
+    int beside = between(-1, 1);
+    switch (below(8)) {
+    case 0: case 1: return within_reach((one_in(2) ? COLDEST : HOTTEST) + beside);
+    case 2: return beside + HALF * between(-3, 3);
+    case 3: return between(COLDEST, HOTTEST);
+    }
+    return within_reach(beside + HALF * between(COLDEST / HALF, HOTTEST / HALF));
+}
+
+static const char *one_of(const char *const *from, int n) { return from[below(n)]; }
+
+#define ONE_OF(list) one_of(list, sizeof list / sizeof list[0])
+
+// a T or, most often, U out of range or misspelled
+static void refused_temperature_line(int zone)
+{
+    static const char *const zones[] = {"0", "0", "6", "6", "7", "-1", "-5", "-", "16", "255", "257", "65537", "4294967297"};
+    static const char *const sixteenths[] = {"-2033", "-2033", "-2033", "-2033", "2041", "2041", "2041", "2041", "-2034", "2042", "-2040",
+                                             "-2048", "2047", "4080", "32768", "-32768", "65536", "-65536", "4294967296"};
+    static const char *const halves[] = {"-255", "256", "-256", "257", "-2032", "2040", "65536"};
+    static const char *const spelled[] = {"", "-0", "-0", "-0", "-0", "00", "08", "08", "-08", "+8", "8.0", "8/16", " 8", "8 ", "8\r",
+                                          "--", "8-", "0x8", "A"};
+    int by_halves = one_in(4), kind = below(11), right = reading_corner() / (by_halves ? HALF : 1);
+    add(kind == 0 ? (by_halves ? "t" : "u") : by_halves ? "T" : "U");
+    if (kind == 1) field(ONE_OF(spelled));
+    else if (kind == 2 || kind == 3) field(ONE_OF(zones));
+    else number(zone + 1);
+    if (kind == 4) {
+        if (one_in(2)) number(right), number_or_dash(right, 2);
+    } else if (kind == 5 || kind == 6) field(ONE_OF(spelled));
+    else if (kind > 6) field(by_halves ? ONE_OF(halves) : ONE_OF(sixteenths));
+    else number_or_dash(right, 10);
+    refused = 1;
+}
+
 // ---- scenes
 
-// Lines that belong together, parted by spaces. G and P: a right block line, of the command that ends in that digit or, for ?, of one that the
-// scene keeps. O: an odd block line. Z: a write of 31h. L: one that sets LOCK. M: one that sets GMSK. H: one of a half bit. R: a read of
-// zone 3 or 4.
-// Of a fan, a or b of the two that the scene keeps: l and h: a read of its low or high byte. u: of either, for another address. f: its count.
-// s: a count with the high byte that the scene keeps. m: missing. w: a write of either byte. e: a refused line.
+// Lines that belong together, parted by spaces. G and P: a right block line, of the command that ends in that digit or, for ?, of one
+// that the scene keeps. O: an odd block line. Z: a write of 31h. L: one that sets LOCK. M: one that sets GMSK. H: one of a half bit. R: a
+// read of zone 3 or 4.
+// Of a fan, a or b of the two that the scene keeps: l and h: a read of its low or high byte. u: of either, for another address. f: its
+// count. s: a count with the high byte that the scene keeps. m: missing. w: a write of either byte. e: a refused line.
 // n: a read of a register beside them, or of any. N: a block line of the fan counts that is not acknowledged. *: one of what may stand
 // between two reads of a count.
 // Of a channel, a or b of the two that the scene keeps: [ and ]: a write of the low or high limit that the scene keeps. { and }: one that
 // moves it. ( and ): one that makes it 00h or FFh. y: one of either limit or of BCh, for another address.
 // !, ~ and =: a reading outside the limits, in between, or one that ends an error. .: one at a corner of the limits. -: missing.
-// x: a refused line. c and C: a write that clears its bit, now and then the others, in the BMC or the Host group. q and Q: a read of them.
+// x: a refused line. c and C: a write that clears its bit, now and then the others, in the BMC or the Host group. q and Q: a read of
+// them.
 // ^: a write of BCh with the VH that the scene keeps. 0: with VH 0. v: with any. r: a read of it. |: a block write of the limits of all
 // channels. +: one of what may stand between two readings of a channel.
-// Of a table, a or b of the two that the scene keeps, or 1 to 4: @: a reading at the threshold that the scene keeps. < and >: a half degree
-// below or above it. _: at that threshold minus the hysteresis. , and ': a half degree below or above that. %: from there up to the threshold.
-// i and d: at a corner of the next threshold up or down, which the scene then keeps. :: at a corner of any. U: not below any that readings
-// reach. D: so far below all that hysteresis holds no step. $: missing. W: a write of zone 3 or 4 with a reading at a corner, open or not.
+// Of a table, a or b of the two that the scene keeps, or 1 to 4: @: a reading at the threshold that the scene keeps. < and >: a little,
+// most often a sixteenth, below or above it. _: at that threshold minus the hysteresis. , and ': a little below or above that. %: from
+// there up to the threshold. i and d: at a corner of the next threshold up or down, which the scene then keeps. :: at a corner of any. U:
+// not below any that readings reach. D: so far below all that hysteresis holds no step. $: missing. W: a write of zone 3 or 4 with a
+// reading at a corner, open or not.
 // B: a write of BDh. Y: of 35h. E: of 31h. p: one of what may stand between two ticks.
+// Of a zone, a or b of the two that the scene keeps, or 1 to 6: I: a reading at its boost. k and J: a little below or above it. g: at the
+// boost minus the hysteresis. o: a little below that. z: from there up to the boost. j: so far below that the boost is off. /: missing.
+// t: a T or U at a corner of the halves, the degrees or the range, taken or not. #: a refused one. &: a read of one of its bytes. ; and
+// `: a write of its whole byte, most often with the degrees it has, or of its half bit, open or not.
+// 1: a write of 31h that enables 1b and 2b. 2: one of BDh by which all tables count in half degrees. 5, 6 and 7: one of 31h that opens
+// zone 3 to T and U, to the bus or to channel 11. 8 and 9: one of 35h by which all tables follow zones 3 and 4, or 1 and 2.
 // S: a setup, every other one with a wrong number. Others: events.
 static const char *const scenes[] = {
     "O O", "O O", "O O O", "O O O", "O O O", "O O G?", "P? O O G?", "O P? O G?", "O A O G?", "G?", "G? G? P? G?", "P? G?", "P? K G?",
@@ -784,8 +893,9 @@ static const char *const fan_scenes[] = {
     "ma la fa ha ha", "fa la ma ha ha", "ma la ma ha", "ma la fa ma ha", "fa la ma fa ha",
     "sa la sa ha", "sa la sa fa ha ha", "sa la fa sa ha ha", "ma la sa ha fa ha", "sa la ma ha",
     "fa fb la lb fa fb ha hb", "fa fb la lb fb fa hb ha hb ha", "fa fb la lb ha fa fb hb", "fa fb la fa fb hb ha", "la hb fa fb lb ha hb",
-    "fa la * fa ha", "fa la fa * ha ha", "fa la * fa * ha", "fa la fa * * ha", "fa la * fa * * ha ha", "fa la * * fa * ha", "fa la * * * fa ha",
-    "fa la fa * * * ha", "la * fa * ha * ha", "ma la * fa * ha", "fa la * ma * ha", "fa la fa * la * fa ha", "fa la * fa la * fa ha",
+    "fa la * fa ha", "fa la fa * ha ha", "fa la * fa * ha", "fa la fa * * ha", "fa la * fa * * ha ha", "fa la * * fa * ha",
+    "fa la * * * fa ha", "fa la fa * * * ha", "la * fa * ha * ha", "ma la * fa * ha", "fa la * ma * ha", "fa la fa * la * fa ha",
+    "fa la * fa la * fa ha",
     "fa * fa ha", "fa * * fa ha", "fa ha * * fa ha", "fa la ha * fa ha", "fa la fa ha * * fa ha",
     "fa fb la lb * fa fb * ha hb", "fa fb la lb fb fa * * hb * ha",
 };
@@ -794,8 +904,8 @@ static const char *const between_reads[] = {
     "ma", "fa", "sa", "mb", "fb", "wa", "wa", "wb", "ua", "ua", "ua", "ub", "ea", "ea", "eb", "lb", "hb",
 };
 static const char *const first_fan_scenes[] = {
-    "la fa ha", "ha fa la fa ha", "fa la fa ha", "ua la fa ha", "fa ua A fa ha la fa ha", "A ua A fa la fa ha", "la A fa ha", "ea S la fa ha",
-    "ea ea S fa la fa S ha", "S fa la fa S ha", "la S fa ha ha",
+    "la fa ha", "ha fa la fa ha", "fa la fa ha", "ua la fa ha", "fa ua A fa ha la fa ha", "A ua A fa la fa ha", "la A fa ha",
+    "ea S la fa ha", "ea ea S fa la fa S ha", "S fa la fa S ha", "la S fa ha ha",
 };
 static const char *const volt_starts[] = {"^ [a ]a", "]a [a ^", "^ [a ]a [b ]b", "^ |", "^ |", "| ^", "L ^ |", "Z ^ [a ]a"};
 static const char *const volt_scenes[] = {
@@ -840,20 +950,55 @@ static const char *const table_scenes[] = {
     "@a K ia K ia K da K da K da K", "$a K da K da K ia K", "ia K da K ia K ia K da K",
     ":a K :a K :a K :a K", ":a :b K :a :b K :a :b K", ":1 :2 :3 :4 K :1 :2 :3 :4 K", "@a @b K _a _b K ,a ,b K", "Ua Ub K _a %b K ,a _b K",
     "Da Db K @a @b K @a ,b K", "$a $b K _a _b K",
-    "Da K @a K B K <a K ,a K", "@a B K B K", "B Da K @a K <a K _a K ,a K", "B Ua K _a K ,a K", "Ua K B _a K B K", "@a K B ,a K B @a K", "B $a K _a K",
+    "Da K @a K B K <a K ,a K", "@a B K B K", "B Da K @a K <a K _a K ,a K", "B Ua K _a K ,a K", "Ua K B _a K B K", "@a K B ,a K B @a K",
+    "B $a K _a K",
     "Y Da K @a K <a K _a K", "Y :a :b K :a :b K", "@a K Y K _a K", "Ua K Y _a K ,a K", "Y $a K _a K Y K",
-    "E Da K @a K <a K _a K", "E :a :b K :a :b K", "@a K E K _a K", "Ua K E _a K ,a K", "E $a K _a K E K", "E Y B :1 :2 :3 :4 K :1 :2 :3 :4 K",
-    "Wa K Wb K", "E Wa Wb K R R", "Y Wa K :a K Wb K",
+    "E Da K @a K <a K _a K", "E :a :b K :a :b K", "@a K E K _a K", "Ua K E _a K ,a K", "E $a K _a K E K",
+    "E Y B :1 :2 :3 :4 K :1 :2 :3 :4 K", "Wa K Wb K", "E Wa Wb K R R", "Y Wa K :a K Wb K",
     "Da K @a p K <a p K ,a K", "Ua K p _a K p ,a K", "$a p K p _a K", "Da K p p @a K p K <a K", "@a p p K 'a K", "Ua K %a p K %a K p K",
+    "2 8 5 Da K <a K 6 `5 K `5 K", "2 8 5 Da K @a K 6 `5 K `5 K ,a K", "2 8 5 Ua K 'a K 6 `5 K `5 K", "B 8 5 Ua K _a K 6 `5 K `5 K",
+    "B 8 5 Da K >a 6 `5 K ;5 K", "2 8 5 Da K <a 6 ;5 K `5 K", "8 5 Da K >a 6 ;5 K", "8 5 Ua K 'a 6 ;5 K `5 K",
+    "8 5 Ua K ,a 6 `5 K `5 K &5", "B 8 5 Ua K %a K 6 `5 K ;5 K", "B 8 5 Da K :a 6 `5 K `5 K", "8 5 @a 6 <a t5 K 5 >a K",
+    "8 5 @a 7 <a t5 K", "9 1 Da K @a K <a K", "9 1 2 Da K <a K @a K _a K ,a K", "9 1 2 Ua K _a K ,a K",
+    "2 9 1 :a :b K :a :b K :a :b K", "2 9 1 Da K @a K", "1 9 2 ia K da K ia K", "2 1 9 Da Db K @a @b K Ua Ub K _a _b K",
+    "9 2 1 Ua K @a K _a K Da K >a K", "1 2 9 Da K @a K Da K @a K", "2 9 1 Da K @a K", "1 2 9 Ua K _a K Ua K _a K",
+    "1 2 9 Da K @a K @a K Da K @a K", "1 2 9 Da Db K @a @b K Da Db K @a @b K", "1 2 9 @1 @2 @3 @4 K Da Db K @a @b K",
 };
 static const char *const between_ticks[] = {
-    "X", "K", "K", "A", "T", "T", "V", "F", "O", "S", "P4", "G4", "P?", "G?", "Z", "L", "M", "H", "R", "B", "B", "B", "Ya", "Ya", "Ea", "Ea",
-    "Wa", "Wb", "$a", "$b", ":b", ":b", "Ub", "Db", ":1", ":2", ":3", ":4",
+    "X", "K", "K", "A", "T", "T", "V", "F", "O", "S", "P4", "G4", "P?", "G?", "Z", "L", "M", "H", "R", "B", "B", "B", "Ya", "Ya", "Ea",
+    "Ea", "Wa", "Wb", "$a", "$b", ":b", ":b", "Ub", "Db", ":1", ":2", ":3", ":4", "ta", "`5", "`5", ";5", "5", "6",
+};
+static const char *const zone_starts[] = {
+    "5 j1 j2 j3 j4 j5 j6 K", "j1 j2 j3 j4 j5 j6 K", "5 K j6 j5 j4 j3 j2 j1 K", "5 j1 j2 j3 j4 j6 k5 K", "9 5 k1 k2 k3 k4 j5 j6 K",
+};
+static const char *const boost_scenes[] = {
+    "ja K Ia K ka K ga K oa K", "ja K ka K Ia K za K oa K", "ja K Ja K ga K oa K ga K", "Ia K oa K ka K Ia K", "ja K ka K Ia K",
+    "ja K ka K Ja K", "Ia K ga K oa K", "Ia K oa K ga K", "Ja K za K za K", "ja K za K ka K", "oa K ga K ka K Ia K ga K oa K",
+    "oa K ka K oa K", "ja K Ia ka K", "ja K Ia oa K", "Ia K oa ga K", "/a K ga K oa K", "/a K ka K oa K", "ja K /a K za K oa K",
+    "ja K /a oa K", "Ia K /a K ga K", "ja jb K Ia kb K oa ob K", "ja jb K ka kb K Ia Ib K ga ob K oa K", "ja jb K ka Ib K ob K",
+    "Ia Ib K oa gb K ob K", "5 j5 K k5 K 6 `5 K `5 K", "5 k5 6 `5 K &5 &5", "5 j5 K I5 K 6 `5 K", "5 I5 K o5 6 `5 K `5 K",
+    "5 I5 K g5 K 6 `5 K ;5 K", "5 J5 K k5 6 ;5 K", "5 j5 K k5 6 ;5 K `5 K", "5 I5 K o5 6 ;5 K &5", "5 j5 K 6 I5 K t5 K",
+    "5 j5 K 7 t5 K", "5 j5 I5 6 k5 K `5 K", "6 ;5 `5 K ;5 K", "j6 K I6 K k6 K g6 K o6 K", "j6 K k6 `6 K ;6 K", "I6 K o6 `6 K",
+    "ja K p Ia K p oa K", "ja p K ka K p Ia K", "Ia K p ga K p oa K",
+};
+static const char *const byte_scenes[] = {
+    "ta &a &a", "ta &a ta &a", "ta &a ta &a ta &a", "ta K &a &a", "ta tb &a &b &b &a", "ta G4", "t1 t3 t5 G4", "ta /a &a &a",
+    "/a &a ta &a", "ka &a &a", "Ia &a Ja &a", "5 ta tb &a &b ta &a", "#a &a", "ta #a &a", "ta #a #a &a K", "#a ta #b &a", "#a #a #b",
+    "ta K tb K", "#a #b ta &a", "ta &a #a &a", "5 t5 &5 &5 6 &5 `5 &5 &5 `5 &5 &5", "5 t5 6 `5 &5 &5 K", "5 t5 6 ;5 &5 &5 K",
+    "5 t5 6 ;5 &5 &5 &5", "5 t5 6 `5 ;5 `5 &5 &5", "5 t5 6 ;5 `5 &5 &5", "5 t5 6 t5 &5 &5 5 t5 &5", "5 t5 7 t5 &5 &5",
+    "5 t5 7 I5 &5 &5", "5 t5 7 k5 &5 6 &5 `5 &5", "5 t5 7 V g5 K &5 &5", "6 t5 &5 &5 t5 &5", "7 t5 &5 5 &5 t5 &5",
+    "5 t5 6 P4 &5 &5 G4", "5 t5 `5 ;5 &5 &5", "5 /5 6 `5 &5 &5", "5 t5 6 /5 `5 &5", "5 t5 6 `5 5 &5 t5 &5", "t6 &6", "j6 `6 &6 &6",
+    "`a ;a &a &a", "ta `a ;a &a &a", "5 t5 6 L `5 &5 &5 ;5 &5", "5 t5 6 X `5 &5", "5 t5 6 p `5 &5 &5",
+};
+static const char *const first_zone_scenes[] = {
+    "ta S S S K &a", "ta S S K", "ka S S S", "/a S S S K", "S ta S K", "#a S S S K ta", "#a S S K #b", "#a #b S S ta K S",
+    "#a #b #a S S S K", "#a #b #a #b S S K", "#a ta S S",
 };
 static const char *const long_scenes[] = {"G9 G9 G9 G9 G9 G9 G9 G9", "G9 G9 G9 G9 P9 P9 P9 O", "GC G5 G9 G9 V K"};
 
 static const char *scene = "", *scene_after = ""; // what is left of it; what comes then
 static int scene_command, scene_high, scene_fans[2], scene_channels[2], scene_vh, scene_tables[2], scene_thresholds[2] = {1, 1};
+static int scene_zones[2];
 static struct window scene_windows[2];
 
 static int command_at(const char *digit)
@@ -875,22 +1020,64 @@ static void table_line_of(const char *at)
     int *k = &scene_thresholds[second], up = threshold(table, *k), down = up - hysteresis(table);
     switch (*at) {
     case '@': show(table, up); break;
-    case '<': show(table, up - 1); break;
-    case '>': show(table, up + 1); break;
+    case '<': show(table, up - a_little()); break;
+    case '>': show(table, up + a_little()); break;
     case '_': show(table, down); break;
-    case ',': show(table, down - 1); break;
-    case '\'': show(table, down + 1); break;
+    case ',': show(table, down - a_little()); break;
+    case '\'': show(table, down + a_little()); break;
     case '%': show(table, between(down, up)); break;
     case 'i': show(table, table_corner(table, next_threshold(table, k, 1))); break;
     case 'd': show(table, table_corner(table, next_threshold(table, k, -1))); break;
     case ':': show(table, any_table_corner(table)); break;
     case 'U': show(table, above_thresholds_in_reach(table)); break;
-    case 'D': show(table, threshold(table, 1) - hysteresis(table) - between(1, 60)); break;
+    case 'D': show(table, threshold(table, 1) - hysteresis(table) - (one_in(3) ? 1 : HALF * between(1, 60))); break;
     case '$': show(table, MISSING); break;
     case 'W': zone = between(4, 5); zone_by_bus(zone, within_reach(any_table_corner(table))); break;
     case 'B': halves = one_in(3) ? 0x30 : 0x00; write_own(0xBD, below(256) | halves); break;
     case 'Y': write_own(0x35, one_in(3) ? 0x30 : below(256)); break;
     case 'E': write_own(0x31, one_in(6) ? below(32) : sources[below(10)]); break;
+    }
+}
+
+static void zone_line_of(const char *at)
+{
+    static int last[6]; // the reading that the zone was given last
+    int second = at[1] == 'b', zone = at[1] >= '1' && at[1] <= '6' ? at[1] - '1' : scene_zones[second];
+    int on = boost(zone), off = boost_end(zone), n = last[zone], whole;
+    switch (*at) {
+    case 'I': n = on; break;
+    case 'k': n = on - a_little(); break;
+    case 'J': n = on + a_little(); break;
+    case 'g': n = off; break;
+    case 'o': n = off - a_little(); break;
+    case 'z': n = between(off, on); break;
+    case 'j': n = off - between(1, 10 * DEGREE); break;
+    case '/': n = MISSING; break;
+    case 't': n = reading_corner(); temperature(zone, n); refused = zone == 5; break;
+    case '#': refused_temperature_line(zone); break;
+    case '&': read_own(one_in(2) ? whole_register(zone) : half_register(zone)); break;
+    case ';':
+        whole = one_in(8) ? below(256) : n == MISSING ? 0x80 : floor_degrees(n) + one_in(4);
+        write_own(whole_register(zone), whole);
+        break;
+    case '`': write_own(half_register(zone), below(256)); break;
+    }
+    if (len == 0) give(zone, n);
+    if (n != MISSING) n = within_reach(n);
+    last[zone] = n;
+}
+
+static void source_line_of(const char *at)
+{
+    int source = held[0x31] & ~0x11, two = one_in(2) ? 0x0C : 0x00;
+    switch (*at) {
+    case '1': write_own(0x31, held[0x31] | 0x0C); break;
+    case '2': write_own(0xBD, held[0xBD] | 0x30); break;
+    case '5': write_own(0x31, source | two); break;
+    case '6': write_own(0x31, source | 0x10 | below(2)); break;
+    case '7': write_own(0x31, source | 0x01); break;
+    case '8': write_own(0x35, below(16)); break;
+    case '9': write_own(0x35, 0xF0 | below(16)); break;
     }
 }
 
@@ -910,11 +1097,11 @@ static void line_of(const char *at)
     case 'M': write_own(0xE3, 0x04); break;
     case 'H': write_own(one_in(2) ? 0x20 : 0x22, 0x80); break;
     case 'R': read_own(between(0x20, 0x23)); break;
-    case 'T': event_line(T); break;
-    case 'V': event_line(V); break;
-    case 'F': event_line(F); break;
-    case 'A': event_line(A); break;
-    case 'K': event_line(K); break;
+    case 'T': some_event_line(T); break;
+    case 'V': some_event_line(V); break;
+    case 'F': some_event_line(F); break;
+    case 'A': some_event_line(A); break;
+    case 'K': some_event_line(K); break;
     case 'X': add("X"); break;
     case 'S': some_setup_line(); if (one_in(2)) spoil_setup(); break;
     case 'l': read_fan(own_address(), fan, 0); break;
@@ -955,7 +1142,10 @@ static void line_of(const char *at)
     case '|': write_windows(); break;
     case '+': line_of(between_readings[below(sizeof between_readings / sizeof between_readings[0])]); break;
     case 'p': line_of(between_ticks[below(sizeof between_ticks / sizeof between_ticks[0])]); break;
-    default: table_line_of(at);
+    default:
+        if (strchr("1256789", *at)) source_line_of(at);
+        else if (strchr("IkJgozj/t#&;`", *at)) zone_line_of(at);
+        else table_line_of(at);
     }
 }
 
@@ -978,6 +1168,8 @@ static void begin_scene(const char *const *from, int n)
     scene_high = one_in(3) ? 0xFF * below(2) : below(256);
     scene_fans[0] = below(4);
     scene_fans[1] = (scene_fans[0] + between(1, 3)) % 4;
+    scene_zones[0] = below(5);
+    scene_zones[1] = (scene_zones[0] + between(1, 4)) % 5;
 }
 
 #define BEGIN(list) begin_scene(list, sizeof list / sizeof list[0])
@@ -1003,12 +1195,38 @@ static void begin_table_scene(void)
     BEGIN(table_scenes);
     for (int i = 0; i < 2; i++) {
         scene_tables[i] = bound_table(i ? !fan : fan);
-        scene_thresholds[i] = one_in(3) ? threshold_in_reach(scene_tables[i]) : crowded_threshold(scene_tables[i]);
+        scene_thresholds[i] = one_in(3) ? threshold_in_reach(scene_tables[i]) : one_in(2) ? odd_threshold(scene_tables[i])
+                                                                                          : crowded_threshold(scene_tables[i]);
     }
     if (shown && !one_in(4)) return;
     shown = 1;
     scene_after = scene;
     scene = table_starts[below(sizeof table_starts / sizeof table_starts[0])];
+}
+
+static int any_boost(void)
+{
+    int any = 0;
+    for (int i = 0; i < 6; i++) any |= setup[BOOSTS + i] != MISSING;
+    return any;
+}
+
+// Of the two zones, one with a boost most often stands first, and scenes of boosts come only where there is one.
+static void begin_zone_scene(void)
+{
+    static int shown;
+    int zone = below(6);
+    if (!any_boost() || one_in(3)) {
+        BEGIN(byte_scenes);
+        return;
+    }
+    BEGIN(boost_scenes);
+    while (setup[BOOSTS + zone] == MISSING && !one_in(20)) zone = below(6);
+    scene_zones[0] = zone;
+    if (shown && !one_in(4)) return;
+    shown = 1;
+    scene_after = scene;
+    scene = zone_starts[below(sizeof zone_starts / sizeof zone_starts[0])];
 }
 
 static int field_at(int at) { return strtol(line + at, 0, 16); }
@@ -1042,7 +1260,7 @@ static void follow_setup(void)
     int n[SETUP];
     char *at = line + 1;
     line[len] = 0;
-    for (int i = 0; i < SETUP; i++) n[i] = strtol(at + 1, 0, 10), at += 1 + strcspn(at + 1, "\t");
+    for (int i = 0; i < SETUP; i++, at += 1 + strcspn(at + 1, "\t")) n[i] = at[1] == '-' && at[2] < '0' ? MISSING : strtol(at + 1, 0, 10);
     if (!in_range(n)) return;
     memcpy(setup, n, sizeof setup);
     level = n[0];
@@ -1084,24 +1302,25 @@ static void damage(void)
 }
 
 // with_scenes: block reads and writes, reads of fan counts, voltages at the corners of their limits, and temperatures at the corners of the
-// tables' thresholds stand between the events, in a few sessions so many block lines that neither they nor their answers fit into 16 KiB,
-// in others a setup made for the tables first, before it now and then some that are refused
+// tables' thresholds, of the boosts and of their own range stand between the events, in a few sessions so many block lines that neither
+// they nor their answers fit into 16 KiB, in others a setup made for the tables first, before it now and then some that are refused
 static void session(int with_scenes)
 {
-    int lines = between(1, 120), bad = below(4) * 5, begin = 0, more = 0, tables = 0, setup_due = 0, refused_setups = 0;
+    int lines = between(1, 120), bad = below(4) * 5, begin = 0, more = 0, tables = 0, zones = 0, setup_due = 0, refused_setups = 0;
     for (int i = 0; i < 16; i++) held[0x91 + 2 * i] = 0xFF;
     held[0x35] = 0x30;
     guess_plain_setup();
     if (with_scenes) {
         // so long and so dense that each kind of scene has its share beside the others
-        lines += 9 * lines / 10;
+        lines += 3 * lines / 2;
         begin = one_in(2) ? between(40, 95) : 18;
         if ((more = one_in(30))) lines = between(200, 900), begin = 95;
         else if ((tables = one_in(3))) begin = between(60, 95);
-        else if (one_in(2)) BEGIN(first_scenes);
+        else if (one_in(3)) BEGIN(first_scenes);
+        else if ((zones = one_in(3))) BEGIN(first_zone_scenes);
         else if (one_in(2)) BEGIN(first_fan_scenes);
         else begin_volt_scene();
-        setup_due = tables || one_in(2);
+        setup_due = tables || (!zones && one_in(2));
         if (setup_due && one_in(2)) refused_setups = one_in(6) ? between(8, 24) : between(1, 5);
         lines += refused_setups;
     }
@@ -1111,6 +1330,7 @@ static void session(int with_scenes)
         if (!*scene && begin && !setup_first && below(100) < begin) {
             if (more) BEGIN(long_scenes);
             else if (tables ? one_in(2) : one_in(5)) begin_table_scene();
+            else if (one_in(any_boost() ? 2 : 3)) begin_zone_scene();
             else if (one_in(3)) begin_volt_scene();
             else if (one_in(2)) BEGIN(scenes);
             else BEGIN(fan_scenes);
@@ -1127,6 +1347,7 @@ static void session(int with_scenes)
             else setup_line();
         } else if ((*scene || due_len) && !one_in(8)) scene_line();
         else if (with_scenes && one_in(8)) line_of(one_in(2) ? "~a" : one_in(2) ? ".a" : ".b");
+        else if (with_scenes) some_event_line(below(20));
         else event_line(below(20));
         if (bad && below(100) < bad) damage();
         else if (!refused) follow();
@@ -1142,41 +1363,41 @@ static void session(int with_scenes)
 enum { LOWEST = -32767, HIGHEST = 32767 }; // what a reading may be
 
 struct lookup {
-    int base, unit, offset[12]; // in degrees; the half degrees that a count of the offsets and of the hysteresis is; in counts
+    int base, unit, offset[12]; // in degrees; the sixteenths that a count of the offsets and of the hysteresis is; in counts
 };
 
-static struct lookup lookup = {30, 2, {2, 2, 2, 2, 2, 2, 2, 2, 2, 2, 2, 2}}; // guessed: that of the last table line taken
+static struct lookup lookup = {30, DEGREE, {2, 2, 2, 2, 2, 2, 2, 2, 2, 2, 2, 2}}; // guessed: that of the last table line taken
 
 static int lookup_threshold(int k)
 {
-    int sum = 2 * lookup.base;
+    int sum = DEGREE * lookup.base;
     for (int i = 0; i < k; i++) sum += lookup.unit * lookup.offset[i];
     return sum;
 }
 
-static int thresholds_reached(int h)
+static int thresholds_reached(int reading)
 {
     int n = 0;
-    for (int k = 1; k <= 12; k++) n += lookup_threshold(k) <= h;
+    for (int k = 1; k <= 12; k++) n += lookup_threshold(k) <= reading;
     return n;
 }
 
 // by document 01's numbers of thresholds
-static int step_after(int old, int h, int hysteresis)
+static int step_after(int old, int reading, int hysteresis)
 {
-    if (h == MISSING) return 12;
-    int now = thresholds_reached(h), later = thresholds_reached(h + lookup.unit * hysteresis);
+    if (reading == MISSING) return 12;
+    int now = thresholds_reached(reading), later = thresholds_reached(reading + lookup.unit * hysteresis);
     return old <= now ? now : old < later ? old : later;
 }
 
 static struct lookup some_lookup(void)
 {
     static const int largest[] = {1, 2, 4, 4, 8, 15, 15, 15, 16, 62, 63, 63, 63, 64, 255};
-    static const int zeros_of_8[] = {0, 0, 0, 0, 1, 2, 4, 6, 7, 8}, units[] = {0, 3, 255};
+    static const int zeros_of_8[] = {0, 0, 0, 0, 1, 2, 4, 6, 7, 8}, units[] = {0, 1, 2, 3, 7, 9, 15, 17, 255};
     int most = largest[below(15)], zeros = zeros_of_8[below(10)], alike = one_in(4), any, one;
     struct lookup l;
     l.base = one_in(12) ? end_base() : some_base();
-    l.unit = one_in(8) ? (one_in(4) ? below(256) : units[below(3)]) : between(1, 2);
+    l.unit = one_in(6) ? (one_in(4) ? below(256) : units[below(9)]) : one_in(2) ? HALF : DEGREE;
     for (int i = 0; i < 12; i++) {
         any = alike ? most : below(most + 1);
         l.offset[i] = below(8) < zeros ? 0 : any;
@@ -1214,6 +1435,7 @@ static int search_hysteresis(void)
 static int search_corner(int k, int hysteresis)
 {
     int up = lookup_threshold(k), down = up - lookup.unit * hysteresis, beside = between(-1, 1);
+    if (one_in(8)) beside = one_in(2) ? beside * HALF : between(-DEGREE, DEGREE);
     return beside + (one_in(2) ? up : down);
 }
 
@@ -1223,15 +1445,15 @@ static int search_reading(int hysteresis)
     switch (below(20)) {
     case 0: return MISSING;
     case 1: return ends[below(4)];
-    case 2: return lookup_threshold(1) - lookup.unit * hysteresis - between(1, 40);
-    case 3: return lookup_threshold(12) + below(40);
+    case 2: return lookup_threshold(1) - lookup.unit * hysteresis - between(1, 20 * DEGREE);
+    case 3: return lookup_threshold(12) + below(20 * DEGREE);
     case 4: return between(COLDEST, HOTTEST);
     }
     return search_corner(between(1, 12), hysteresis);
 }
 
 // most often near the step that the reading has, or that reading plus hysteresis has
-static int old_step(int h, int hysteresis)
+static int old_step(int reading, int hysteresis)
 {
     int reach = one_in(2) ? lookup.unit * hysteresis : 0, far = below(13);
     switch (below(12)) {
@@ -1240,14 +1462,14 @@ static int old_step(int h, int hysteresis)
     case 2: return one_in(2) ? 13 : one_in(2) ? 255 : between(13, 255);
     case 3: case 4: case 5: return far;
     }
-    return h == MISSING ? far : clamp(thresholds_reached(h + reach) + between(-2, 2), 0, 12);
+    return reading == MISSING ? far : clamp(thresholds_reached(reading + reach) + between(-2, 2), 0, 12);
 }
 
-static void search_line(int old, int h, int hysteresis)
+static void search_line(int old, int reading, int hysteresis)
 {
     number(old);
-    if (h == MISSING) field("-");
-    else number(h);
+    if (reading == MISSING) field("-");
+    else number(reading);
     number(hysteresis);
     drop_first_tab();
 }
@@ -1255,28 +1477,28 @@ static void search_line(int old, int h, int hysteresis)
 // Some come in a run that goes as ticks do: the hysteresis stays, and the old step is the new one of the search before.
 static void next_search(void)
 {
-    static int run, step, h, hysteresis;
+    static int run, step, reading, hysteresis;
     int old;
     if (run == 0 && one_in(10)) {
         run = between(3, 20);
         step = below(13);
         hysteresis = search_hysteresis();
-        h = search_reading(hysteresis);
+        reading = search_reading(hysteresis);
     }
     if (run) {
         run--;
         old = step;
-        if (one_in(6)) h = search_reading(hysteresis);
-        else if (h == MISSING || one_in(2)) h = search_corner(clamp(step + between(-1, 2), 1, 12), hysteresis);
-        else h += between(-5, 5);
+        if (one_in(6)) reading = search_reading(hysteresis);
+        else if (reading == MISSING || one_in(2)) reading = search_corner(clamp(step + between(-1, 2), 1, 12), hysteresis);
+        else reading += one_in(3) ? between(-1, 1) : between(-3 * DEGREE, 3 * DEGREE);
     } else {
         hysteresis = search_hysteresis();
-        h = search_reading(hysteresis);
-        old = old_step(h, hysteresis);
+        reading = search_reading(hysteresis);
+        old = old_step(reading, hysteresis);
     }
-    if (h != MISSING) h = clamp(h, LOWEST, HIGHEST);
-    step = step_after(old, h, hysteresis);
-    search_line(old, h, hysteresis);
+    if (reading != MISSING) reading = clamp(reading, LOWEST, HIGHEST);
+    step = step_after(old, reading, hysteresis);
+    search_line(old, reading, hysteresis);
 }
 
 static void title_line(void)
@@ -1328,7 +1550,7 @@ static void spoil(void)
 {
     switch (line[0] == '#' ? 0 : below(9)) {
     case 0: damage(); break;
-    case 1: len = 0; event_line(below(20)); break;
+    case 1: len = 0; some_event_line(below(20)); break;
     case 2: other_number_of_fields(); break;
     case 3: case 4: misspelled_field(); break;
     case 5: field_out_of_range(); misspelled_field(); break;
