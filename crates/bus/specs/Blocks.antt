@@ -16,6 +16,7 @@ use Rattle.state.specs.declared.Chip.{Chip}
 use Rattle.state.specs.declared.Zone.{Zone}
 use Rattle.state.specs.With.{withRegisters, withZones, withRegister, withZone}
 use Rattle.state.specs.Made.{fresh, ofZones, ofReadings}
+use Rattle.sense.specs.Events.{readZone}
 use Rattle.bus.specs.declared.Change.{Change}
 use Rattle.bus.specs.declared.Change.the-variants.{Nothing, Register, ZoneReading}
 use Rattle.bus.specs.Latch.{isOurs, transacted}
@@ -69,7 +70,7 @@ like d c = withZones (withRegisters d (c .registers)) (c .zones)
 
 module _ (d : Chip) where
   changed-like : (c : Chip) (x : Change) → changed (like d c) x ≡ like d (changed c x)
-  unfolding changed withRegister withZone
+  unfolding changed withRegister withZone readZone
   changed-like c Nothing = refl
   changed-like c (Register a byte) = refl
   changed-like c (ZoneReading i r) = refl

@@ -17,6 +17,7 @@ use Rattle.state.specs.Parts.{registerAt, zoneAt, voltAt, fanAt, keptAt}
 use Rattle.state.specs.With.{withPin, withRegister, withZone, withVolt, withFan}
 use Rattle.state.specs.PowerOn.{defaultSetup, powerOn, atRest}
 use Rattle.state.specs.Made.{fresh}
+use Rattle.sense.specs.Events.{readZone}
 use Rattle.bus.specs.Latch.{latchBy, latchAfter, transactedPin, isOurs, transacted}
 use Rattle.bus.specs.Write.{storedByte, stored, clearedByte, cleared, zoneWritable, changeWhole, changeHalf, changeKind, isShut, changeHome, changeOf, changed, wroteRegister}
 use Rattle.bus.specs.Read.{voltByte, fanWord, lowByte, highByte, halfByte, shownKind, shownHome, shownRegister, givenByte, givenAt, givenRegister, keptAs, keptAfter, keptChip, Byte, NoByte, readByte}
@@ -58,7 +59,7 @@ unfoldable pub zoneThree : Reading → Chip
 zoneThree r = withZone (withRegister fresh 0x31 0x10) 4 r
 
 pub zone-writes : (zoneAt (written 0x52 0x20 fresh) 4 ≡ reading.Missing) × (zoneAt (written 0x52 0x20 (zoneThree (reading.Taken (pos 269)))) 4 ≡ reading.Taken (pos 512)) × (zoneAt (written 0x21 0xFF (zoneThree (reading.Taken (pos 269)))) 4 ≡ reading.Taken (negsuc 15)) × (zoneAt (written 0x20 0xFF (zoneThree (reading.Taken (negsuc 15)))) 4 ≡ reading.Taken (negsuc 7)) × (zoneAt (written 0x20 0x80 (zoneThree (reading.Taken (pos 269)))) 4 ≡ reading.Taken (pos 264)) × (zoneAt (written 0x20 0x7F (zoneThree (reading.Taken (pos 269)))) 4 ≡ reading.Taken (pos 256)) × (zoneAt (written 0x20 0x7F (zoneThree (reading.Taken (pos 259)))) 4 ≡ reading.Taken (pos 256)) × (zoneAt (written 0x52 0x80 (zoneThree (reading.Taken (pos 269)))) 4 ≡ reading.Missing) × (zoneAt (written 0x20 0x80 (zoneThree reading.Missing)) 4 ≡ reading.Missing) × (zoneAt (written 0x53 0x81 fresh) 5 ≡ reading.Taken (negsuc 2031)) × (zoneAt (written 0x53 0x81 (withRegister fresh 0x31 0x02)) 5 ≡ reading.Missing) × (zoneAt (written 0x50 0x20 fresh) 0 ≡ reading.Missing)
-unfolding written zoneThree wroteRegister changed changeOf changeHome changeKind isShut changeWhole changeHalf zoneWritable withRegister withZone zoneAt registerAt readingOf degreesOf withHalf isSet lockMarked lockMarks kindOf homeOf homes powerOn atRest defaultSetup defaults
+unfolding written zoneThree wroteRegister changed changeOf changeHome changeKind isShut changeWhole changeHalf zoneWritable withRegister withZone readZone zoneAt registerAt readingOf degreesOf withHalf isSet lockMarked lockMarks kindOf homeOf homes powerOn atRest defaultSetup defaults
 zone-writes = (refl, refl, refl, refl, refl, refl, refl, refl, refl, refl, refl, refl)
 
 -- only writable bits are stored; a written 1 clears an error bit and a 0 keeps it; LOCK can be set, cannot be cleared and keeps marked registers

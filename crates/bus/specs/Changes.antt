@@ -18,6 +18,7 @@ use Rattle.state.specs.declared.FanKept.{FanKept}
 use Rattle.state.specs.declared.Latch.{Latch}
 use Rattle.state.specs.Parts.{registerAt, zoneAt}
 use Rattle.state.specs.With.{withRegisters, withZones, withKept, withPin, withRegister, withZone}
+use Rattle.sense.specs.Events.{readZone}
 use Rattle.bus.specs.declared.Change.{Change}
 use Rattle.bus.specs.declared.Change.the-variants.{Nothing, Register, ZoneReading}
 use Rattle.bus.specs.Write.{stored, cleared, zoneWritable, changeWhole, changeHalf, changeKind, isShut, changeHome, changeOf, changed, wroteRegister}
@@ -89,19 +90,19 @@ bus-keeps-on p q = record {
 }
 
 change-keeps : (c : Chip) (d : Change) → BusKeeps c (changed c d)
-unfolding changed withRegister withZone
+unfolding changed withRegister withZone readZone
 change-keeps c Nothing = bus-keeps-but c _ _ _ _
 change-keeps c (Register a byte) = bus-keeps-but c _ _ _ _
 change-keeps c (ZoneReading i r) = bus-keeps-but c _ _ _ _
 
 change-pin : (c : Chip) (d : Change) → changed c d .pin ≡ c .pin
-unfolding changed withRegister withZone
+unfolding changed withRegister withZone readZone
 change-pin c Nothing = refl
 change-pin c (Register a byte) = refl
 change-pin c (ZoneReading i r) = refl
 
 change-kept : (c : Chip) (d : Change) → changed c d .kept ≡ c .kept
-unfolding changed withRegister withZone
+unfolding changed withRegister withZone readZone
 change-kept c Nothing = refl
 change-kept c (Register a byte) = refl
 change-kept c (ZoneReading i r) = refl

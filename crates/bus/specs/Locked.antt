@@ -1,5 +1,5 @@
 -- What LOCK keeps. Assumes nothing.
-use mathlib.Core.Path.{_≡_, refl, _∙_}
+use mathlib.Core.Path.{_≡_, refl, sym, _∙_}
 use mathlib.Core.Bool.{Bool, true, false}
 use mathlib.Core.List.{List}
 use Prim.Native.Nat.{ℕ}
@@ -7,13 +7,16 @@ use lib.Dec.{T}
 use lib.Seq.{getD-set-other}
 use Rattle.laws.specs.Pick.{both}
 use Rattle.laws.specs.Never.{never}
-use Rattle.map.specs.Names.{CONFIGURATION, LOCK}
+use Rattle.map.specs.Names.{B-ERROR-STATUS-1, H-ERROR-STATUS-1, CONFIGURATION, LOCK}
+use Rattle.map.specs.Tables.{lockMarks}
 use Rattle.map.specs.Map.{lockMarked, homeOf}
 use Rattle.map.specs.Bits.{isSet}
 use Rattle.map.specs.Facts.{configuration}
 use Rattle.state.specs.declared.Chip.{Chip}
 use Rattle.state.specs.Parts.{registerAt}
 use Rattle.state.specs.With.{withRegister, withZone}
+use Rattle.sense.specs.Events.{readZone}
+use Rattle.sense.specs.ButZones.{zone-file}
 use Rattle.bus.specs.Latch.{transacted}
 use Rattle.bus.specs.declared.Change.{Change}
 use Rattle.bus.specs.Write.{stored, cleared, isShut, changeOf, changed, wroteRegister}
@@ -30,17 +33,26 @@ both-yes false t p q e = p
 pub lock-marked : T (lockMarked CONFIGURATION)
 lock-marked = rw (configuration .1) tt
 
+-- 40h and 48h, which have the zones' error bits, are not
+unmarked : T (lockMarked B-ERROR-STATUS-1) → ⊥
+unfolding lockMarked lockMarks
+unmarked t = t
+
+unmarked-host : T (lockMarked H-ERROR-STATUS-1) → ⊥
+unfolding lockMarked lockMarks
+unmarked-host t = t
+
 module _ (c : Chip) (locked : T (isSet (registerAt c CONFIGURATION) LOCK)) where
   open-other : (a k : ℕ) → isShut (registerAt c CONFIGURATION) a ≡ false → T (lockMarked k) → k ≡ a → ⊥
   unfolding isShut
   open-other a k f marked e = both-yes (lockMarked a) _ (rw e at marked) locked f
 
   change-keeps : {a byte : ℕ} {d : Change} → Allowed c a byte d → (k : ℕ) → T (lockMarked k) → registerAt (changed c d) k ≡ registerAt c k
-  unfolding changed registerAt withRegister withZone stored cleared
+  unfolding changed registerAt withRegister withZone readZone stored cleared
   change-keeps none k marked = refl
   change-keeps {a} (store f s) k marked = getD-set-other (c .registers) a k _ 0 (open-other a k f marked)
   change-keeps {a} (clear f s) k marked = getD-set-other (c .registers) a k _ 0 (open-other a k f marked)
-  change-keeps (zone i r) k marked = refl
+  change-keeps (zone i r) k marked = sym (zone-file (c .registers) i r .each k (λ e. unmarked (rw e at marked)) (λ e. unmarked-host (rw e at marked)))
 
   -- while LOCK is set, no write changes a lock-marked register
   pub locked-keeps : (a byte k : ℕ) → T (lockMarked k) → registerAt (wroteRegister c a byte) k ≡ registerAt c k

@@ -18,6 +18,8 @@ use Rattle.map.specs.Blocks.{blockOf}
 use Rattle.state.specs.declared.Chip.{Chip}
 use Rattle.state.specs.Parts.{registerAt}
 use Rattle.state.specs.With.{withRegister, withZone}
+use Rattle.sense.specs.Events.{readZone}
+use Rattle.sense.specs.Marks.{zone-file-marks}
 use Rattle.bus.specs.declared.Change.{Change}
 use Rattle.bus.specs.Write.{clearedByte, stored, cleared, changeOf, changed, wroteRegister}
 use Rattle.bus.specs.Latch.{transacted}
@@ -34,13 +36,13 @@ cleared-keeps old writable byte k b h stands unset =
 
 module _ (c : Chip) (a byte k : ℕ) (b : byte < 256) (h : k < 8) (status : kindOf a ≡ Status) (stands : T (isSet (registerAt c a) (2 ^ k))) where
   change-stands : {home : ℕ} {d : Change} → Allowed c home byte d → (home ≡ a → T (isSet byte (2 ^ k)) → ⊥) → T (isSet (registerAt (changed c d) a) (2 ^ k))
-  unfolding changed registerAt withRegister withZone stored cleared
+  unfolding changed registerAt withRegister withZone readZone stored cleared
   change-stands none unless = stands
   change-stands {home} (store f s) unless =
       set-cases (λ (x : ℕ). T (isSet x (2 ^ k))) (c .registers) home a _ 0 stands (λ e. absurd (s (ap kindOf e ∙ status)))
   change-stands {home} (clear f s) unless =
       set-cases (λ (x : ℕ). T (isSet x (2 ^ k))) (c .registers) home a _ 0 stands (λ e. cleared-keeps _ (writableOf home) byte k b h (rw e stands) (unless e))
-  change-stands (zone i r) unless = stands
+  change-stands (zone i r) unless = zone-file-marks (c .registers) i r .stays a (2 ^ k) stands
 
   -- an error bit that stands stays, unless a 1 is written to it, at its own address or a mirror's
   pub error-stays : (address : ℕ) → (homeOf address ≡ a → T (isSet byte (2 ^ k)) → ⊥) → T (isSet (registerAt (wroteRegister c address byte) a) (2 ^ k))

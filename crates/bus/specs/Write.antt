@@ -14,8 +14,9 @@ use Rattle.map.specs.Kind.{kindOf}
 use Rattle.temperature.specs.Temperature.{readingOf, withHalf}
 use Rattle.state.specs.declared.Chip.{Chip}
 use Rattle.state.specs.Parts.{registerAt, zoneAt}
-use Rattle.state.specs.With.{withPin, withRegister, withZone}
+use Rattle.state.specs.With.{withPin, withRegister}
 use Rattle.state.specs.Made.{ofZones}
+use Rattle.sense.specs.Events.{readZone}
 use Rattle.bus.specs.declared.Change.{Change}
 use Rattle.bus.specs.declared.Change.the-variants.{Nothing, Register, ZoneReading}
 use Rattle.bus.specs.Latch.{transactedPin, isOurs, transacted}
@@ -78,11 +79,11 @@ changeOf c a byte = changeHome c (homeOf a) byte
 
 -- ---- the chip after a write
 
--- with the change made
+-- with the change made; 02, Q-12: a zone's reading is compared "at the event that sets the reading"
 unfoldable pub changed : Chip → Change → Chip
 changed c Nothing = c
 changed c (Register a byte) = withRegister c a byte
-changed c (ZoneReading zone r) = withZone c zone r
+changed c (ZoneReading zone r) = readZone c zone r
 
 -- of a write to a register, at its own address or a mirror's
 unfoldable pub wroteRegister : Chip → ℕ → ℕ → Chip

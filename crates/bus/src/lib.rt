@@ -414,7 +414,10 @@ fn write_register(file: &mut [u8; 256], zones: [Zone; 6], register: u8, byte: u8
             file[home as usize] = stored;
             zones
         }
-        Change::ZoneReading(zone, reading) => state::with_reading(zones, zone, reading),
+        Change::ZoneReading(zone, reading) => {
+            sense::compare_zone(file, zone, reading);
+            state::with_reading(zones, zone, reading)
+        }
     }
 }
 

@@ -21,8 +21,12 @@ use Rattle.map.proofs.is_set.Reads.{Learnt as is-set-promise}
 use Rattle.map.proofs.kind_of.Reads.{Learnt as kind-of-promise}
 use Rattle.map.proofs.slave_address.Reads.{Learnt as slave-address-promise}
 use Rattle.map.proofs.block_of.Reads.{Learnt as block-of-promise}
+use Rattle.masks.proofs.volt_masks.Reads.{Learnt as volt-masks-promise}
+use Rattle.masks.proofs.fan_masks.Reads.{Learnt as fan-masks-promise}
+use Rattle.masks.proofs.zone_masks.Reads.{Learnt as zone-masks-promise}
 use Rattle.temperature.proofs.whole_byte.Reads.{Learnt as whole-byte-promise}
 use Rattle.temperature.proofs.half_set.Reads.{Learnt as half-set-promise}
+use Rattle.temperature.proofs.from_degrees.Reads.{Learnt as from-degrees-promise}
 use Rattle.temperature.proofs.from_byte.Reads.{Learnt as from-byte-promise}
 use Rattle.temperature.proofs.from_count.Reads.{Learnt as from-count-promise}
 use Rattle.temperature.proofs.with_half.Reads.{Learnt as with-half-promise}
@@ -31,6 +35,7 @@ use Rattle.state.proofs.default_setup.Reads.{Learnt as default-setup-promise}
 use Rattle.state.proofs.power_again.Reads.{Learnt as power-again-promise}
 use Rattle.state.proofs.power_on.Reads.{Learnt as power-on-promise}
 use Rattle.state.proofs.zone_at.Reads.{Learnt as zone-at-promise}
+use Rattle.state.proofs.zone_enabled.Reads.{Learnt as zone-enabled-promise}
 use Rattle.state.proofs.volt_at.Reads.{Learnt as volt-at-promise}
 use Rattle.state.proofs.fan_at.Reads.{Learnt as fan-at-promise}
 use Rattle.state.proofs.with_reading.Reads.{Learnt as with-reading-promise}
@@ -41,6 +46,7 @@ use Rattle.sense.proofs.errors_standing.Reads.{Learnt as errors-standing-promis
 use Rattle.sense.proofs.alert_active.Reads.{Learnt as alert-active-promise}
 use Rattle.sense.proofs.compare_voltage.Reads.{Learnt as compare-voltage-promise}
 use Rattle.sense.proofs.compare_count.Reads.{Learnt as compare-count-promise}
+use Rattle.sense.proofs.compare_zone.Reads.{Learnt as compare-zone-promise}
 use Rattle.sense.proofs.hears_zone.Reads.{Learnt as hears-zone-promise}
 use Rattle.sense.proofs.volt_reading.Reads.{Learnt as volt-reading-promise}
 use Rattle.sense.proofs.feeds_three.Reads.{Learnt as feeds-three-promise}
@@ -59,7 +65,6 @@ use Rattle.drive.proofs.followed_zone.Reads.{Learnt as followed-zone-promise}
 use Rattle.drive.proofs.new_step.Reads.{Learnt as new-step-promise}
 use Rattle.drive.proofs.asked_duty.Reads.{Learnt as asked-duty-promise}
 use Rattle.drive.proofs.is_boosted.Reads.{Learnt as is-boosted-promise}
-use Rattle.drive.proofs.boost_enabled.Reads.{Learnt as boost-enabled-promise}
 use Rattle.drive.proofs.delay_of.Reads.{Learnt as delay-of-promise}
 use Rattle.drive.proofs.ramped_on.Reads.{Learnt as ramped-on-promise}
 use Rattle.drive.proofs.fan_duty.Reads.{Learnt as fan-duty-promise}
@@ -150,6 +155,17 @@ slave-address = determined (λ κs a r e p. p)
 pub block-of : Result block-of-promise
 block-of = determined (λ κs a r e p. p)
 
+-- ---- masks: sleep masks
+
+pub volt-masks : Result volt-masks-promise
+volt-masks = determined (λ κs a r e p. p)
+
+pub fan-masks : Result fan-masks-promise
+fan-masks = determined (λ κs a r e p. p)
+
+pub zone-masks : Result zone-masks-promise
+zone-masks = determined (λ κs a r e p. p)
+
 -- ---- temperature: temperatures
 
 pub whole-byte : Result whole-byte-promise
@@ -157,6 +173,9 @@ whole-byte = determined (λ κs a r e p. p)
 
 pub half-set : Result half-set-promise
 half-set = determined (λ κs a r e p. p)
+
+pub from-degrees : Result from-degrees-promise
+from-degrees = determined (λ κs a r e p. p)
 
 pub from-byte : Result from-byte-promise
 from-byte = determined (λ κs a r e p. p)
@@ -183,6 +202,9 @@ power-on = determined (λ κs a r e p. p)
 
 pub zone-at : Result zone-at-promise
 zone-at = determined (λ κs a r e p. p)
+
+pub zone-enabled : Result zone-enabled-promise
+zone-enabled = determined (λ κs a r e p. p)
 
 pub volt-at : Result volt-at-promise
 volt-at = determined (λ κs a r e p. p)
@@ -215,6 +237,9 @@ compare-voltage = determined (λ κs a r e p. both p)
 
 pub compare-count : Left compare-count-promise (λ κs e. now (e .0))
 compare-count = determined (λ κs a r e p. p)
+
+pub compare-zone : Left compare-zone-promise (λ κs e. now (e .0))
+compare-zone = determined (λ κs a r e p. p)
 
 pub hears-zone : Result hears-zone-promise
 hears-zone = determined (λ κs a r e p. p)
@@ -273,9 +298,6 @@ asked-duty = determined (λ κs a r e p. p)
 
 pub is-boosted : Result is-boosted-promise
 is-boosted = determined (λ κs a r e p. p)
-
-pub boost-enabled : Result boost-enabled-promise
-boost-enabled = determined (λ κs a r e p. p)
 
 pub delay-of : Result delay-of-promise
 delay-of = determined (λ κs a r e p. p)

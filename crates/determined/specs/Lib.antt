@@ -6,4 +6,5 @@ pub mod PrintedVolts
 pub mod PrintedFans
 pub mod PrintedOffsets
 pub mod PrintedSixteenths
+pub mod PrintedMasks
 pub mod ProvedCases

@@ -9,15 +9,16 @@ use Rattle.laws.specs.Tab.{tab}
 use Rattle.map.specs.Tables.{defaults}
 use Rattle.map.specs.Bits.{isSet}
 use Rattle.temperature.specs.Temperature.{statedReading, hotterOf}
-use Rattle.state.specs.Parts.{registerAt, zoneAt, hotAt}
+use Rattle.state.specs.Parts.{registerAt, zoneAt, zoneEnabled, hotAt}
 use Rattle.state.specs.With.{withZone}
 use Rattle.state.specs.PowerOn.{powerOn, atRest}
 use Rattle.sense.specs.Errors.{lowLimit, highLimit, fanLimit, fanLimitAt}
-use Rattle.sense.specs.Missing.{voltWatched, fanWatched, missedVolt, missedFan, missedVolts, missedFans, missedFile, missed}
-use Rattle.sense.specs.Standing.{bitsOf, errorsStanding, alertActive}
-use Rattle.sense.specs.Events.{zoneThreeFed, zoneHeard, tookTemperature}
+use Rattle.sense.specs.ZoneLimits.{zoneNumber, lowTemp, highTemp, tempsWatched, zoneWatched, comparedZone, zoneFile}
+use Rattle.sense.specs.Missing.{voltWatched, fanWatched, missedVolt, missedFan, missedVolts, missedFans, missedFile, missed, missedZones, missedZone}
+use Rattle.sense.specs.Standing.{zoneCounts, voltCounts, fanCounts, errorsStanding, alertActive}
+use Rattle.sense.specs.Events.{zoneThreeFed, zoneHeard, tookTemperature, readZone}
 use Rattle.drive.specs.Tables.{joinedZone, zoneOne, zoneTwo, followedZone, unitOf, tableOf, sumTo, isReached, thresholdReached, notAbove, settled, newStep, askedDuty}
-use Rattle.drive.specs.Boosts.{isBoosted, boostEnabled}
+use Rattle.drive.specs.Boosts.{isBoosted}
 use Rattle.drive.specs.Ramps.{delayOf, movedLevel, rampedOn}
 use Rattle.drive.specs.Duties.{boundLargest, tablesAsk, fanDuty, loadedStart, kickedFan}
 use Rattle.drive.specs.Tick.{followed, stepAfter, askAfter, stepsAfter, asksAfter, boostAfter, boostsAfter, anyOn, rampAfter, rampsAfter, levelsOf, dutyAfter, dutyOf, kickAfter, driveAfter, outputsAfter, driven, tickedChip}
@@ -76,5 +77,5 @@ offsetOutput =
     ∷ []
 
 pub offsets-printed : printedFrom startSession 1 offsetInput ≡ offsetOutput
-unfolding offsetInput offsetOutput startSession printedFrom printedBy judgedLine judgedBy askedText askedBy askedEvent askedOther askedSettings setupLine refusedLine eventLine begunLine answerText refusalOf eventIn indexIn statedIn readingWithin statedReading eventBy letterOf fieldsOf firstField otherFields fieldAt temperatureLine aloneLine pairOf spelledStated numberAt indexOf decimalOf plusOf minusOf runOf allDigits isDigit valueOf isSpelt dataOf settingsOf refusedSettings isSetup settingAt every rangeOf isWithin risesBy plainOf signedOf noneOr setupBy tab steppedChip takenStep quietStep tookTemperature zoneHeard zoneThreeFed withZone tickAnswer tickedChip missed missedFile missedVolts missedFans missedVolt missedFan voltWatched fanWatched lowLimit highLimit fanLimit fanLimitAt alertActive errorsStanding bitsOf isSet driven driveAfter outputsAfter kickAfter dutyOf dutyAfter levelsOf rampsAfter rampAfter anyOn boostsAfter boostAfter kickedFan loadedStart fanDuty tablesAsk boundLargest rampedOn movedLevel delayOf isBoosted boostEnabled registerAt zoneAt hotAt powerOn atRest defaults asksAfter stepsAfter askAfter stepAfter followed askedDuty newStep settled notAbove thresholdReached isReached sumTo tableOf unitOf followedZone zoneOne zoneTwo joinedZone hotterOf countTo refusalText tickText columnText digitsText digitOf
+unfolding offsetInput offsetOutput startSession printedFrom printedBy judgedLine judgedBy askedText askedBy askedEvent askedOther askedSettings setupLine refusedLine eventLine begunLine answerText refusalOf eventIn indexIn statedIn readingWithin statedReading eventBy letterOf fieldsOf firstField otherFields fieldAt temperatureLine aloneLine pairOf spelledStated numberAt indexOf decimalOf plusOf minusOf runOf allDigits isDigit valueOf isSpelt dataOf settingsOf refusedSettings isSetup settingAt every rangeOf isWithin risesBy plainOf signedOf noneOr setupBy tab steppedChip takenStep quietStep tookTemperature zoneHeard zoneThreeFed readZone zoneFile comparedZone zoneWatched tempsWatched lowTemp highTemp zoneNumber withZone tickAnswer tickedChip missed missedFile missedZones missedVolts missedFans missedZone missedVolt missedFan voltWatched fanWatched lowLimit highLimit fanLimit fanLimitAt alertActive errorsStanding zoneCounts voltCounts fanCounts isSet driven driveAfter outputsAfter kickAfter dutyOf dutyAfter levelsOf rampsAfter rampAfter anyOn boostsAfter boostAfter kickedFan loadedStart fanDuty tablesAsk boundLargest rampedOn movedLevel delayOf isBoosted zoneEnabled registerAt zoneAt hotAt powerOn atRest defaults asksAfter stepsAfter askAfter stepAfter followed askedDuty newStep settled notAbove thresholdReached isReached sumTo tableOf unitOf followedZone zoneOne zoneTwo joinedZone hotterOf countTo refusalText tickText columnText digitsText digitOf
 offsets-printed = refl

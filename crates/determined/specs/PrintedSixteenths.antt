@@ -11,17 +11,18 @@ use Rattle.map.specs.Map.{lockMarked, homeOf, writableOf}
 use Rattle.map.specs.Slave.{slaveAddress}
 use Rattle.map.specs.Tables.{defaults, lockMarks, homes, writables}
 use Rattle.temperature.specs.Temperature.{statedReading, hotterOf, withHalf, readingOf, degreesOf, wholeByte, halfSet, wholeOf, byteOf, isOdd}
-use Rattle.state.specs.Parts.{registerAt, zoneAt, hotAt}
+use Rattle.state.specs.Parts.{registerAt, zoneAt, zoneEnabled, hotAt}
 use Rattle.state.specs.PowerOn.{powerOn, atRest, defaultSetup}
 use Rattle.state.specs.With.{withZone, withRegister}
 use Rattle.sense.specs.Errors.{lowLimit, highLimit, fanLimit, fanLimitAt}
-use Rattle.sense.specs.Events.{tookTemperature, zoneHeard, zoneThreeFed}
-use Rattle.sense.specs.Missing.{missed, missedFile, missedVolts, missedFans, missedVolt, missedFan, voltWatched, fanWatched}
-use Rattle.sense.specs.Standing.{alertActive, errorsStanding, bitsOf}
+use Rattle.sense.specs.ZoneLimits.{zoneNumber, lowTemp, highTemp, tempsWatched, zoneWatched, comparedZone, zoneFile}
+use Rattle.sense.specs.Events.{tookTemperature, zoneHeard, zoneThreeFed, readZone}
+use Rattle.sense.specs.Missing.{missed, missedFile, missedVolts, missedFans, missedVolt, missedFan, voltWatched, fanWatched, missedZones, missedZone}
+use Rattle.sense.specs.Standing.{alertActive, errorsStanding, zoneCounts, voltCounts, fanCounts}
 use Rattle.bus.specs.Latch.{transacted, transactedPin, latchAfter, latchBy, isOurs}
 use Rattle.bus.specs.Read.{readByte, givenRegister, givenAt, givenByte, shownRegister, shownHome, shownKind, halfByte, keptAfter, keptAs}
 use Rattle.bus.specs.Write.{wroteByte, wroteRegister, changed, changeOf, changeHome, changeKind, changeWhole, changeHalf, zoneWritable, isShut, stored, storedByte}
-use Rattle.drive.specs.Boosts.{isBoosted, boostEnabled}
+use Rattle.drive.specs.Boosts.{isBoosted}
 use Rattle.drive.specs.Duties.{kickedFan, loadedStart, fanDuty, tablesAsk, boundLargest}
 use Rattle.drive.specs.Ramps.{rampedOn, movedLevel, delayOf}
 use Rattle.drive.specs.Tables.{askedDuty, newStep, settled, notAbove, thresholdReached, isReached, sumTo, tableOf, unitOf, followedZone, zoneOne, zoneTwo, joinedZone}
@@ -94,5 +95,5 @@ fineOutput =
     ∷ []
 
 pub fine-printed : printedFrom startSession 1 fineInput ≡ fineOutput
-unfolding fineInput fineOutput startSession printedFrom printedBy judgedLine judgedBy askedText askedBy askedEvent refusedLine eventLine begunLine answerText refusalOf eventIn indexIn statedIn readingWithin statedReading eventBy letterOf fieldsOf firstField otherFields fieldAt temperatureLine aloneLine pairOf spelledStated numberAt indexOf decimalOf plusOf minusOf runOf allDigits isDigit valueOf isSpelt dataOf steppedChip takenStep quietStep tookTemperature zoneHeard zoneThreeFed withZone tickAnswer tickedChip missed missedFile missedVolts missedFans missedVolt missedFan voltWatched fanWatched lowLimit highLimit fanLimit fanLimitAt alertActive errorsStanding bitsOf isSet driven driveAfter outputsAfter kickAfter dutyOf dutyAfter levelsOf rampsAfter rampAfter anyOn boostsAfter boostAfter kickedFan loadedStart fanDuty tablesAsk boundLargest rampedOn movedLevel delayOf isBoosted boostEnabled registerAt zoneAt hotAt powerOn atRest defaults asksAfter stepsAfter askAfter stepAfter followed askedDuty newStep settled notAbove thresholdReached isReached sumTo tableOf unitOf followedZone zoneOne zoneTwo joinedZone hotterOf countTo refusalText tickText columnText digitsText digitOf askedOther writeLine writeBy readLine readBy threeOf threeBy twoOf twoBy nibbleOf hexByteOf writtenAnswer wroteByte wroteRegister changed changeOf changeHome changeKind changeWhole changeHalf zoneWritable isShut lockMarked lockMarks kindOf homeOf homes withHalf readingOf degreesOf stored storedByte writableOf writables withRegister transacted transactedPin latchAfter latchBy isOurs slaveAddress readAnswer seenAnswer readByte givenRegister givenAt givenByte fanByteAt byteOfKind shownRegister shownHome shownKind halfByte wholeByte halfSet wholeOf byteOf isOdd keptAfter keptAs ackText byteText hexText hexDigit defaultSetup
+unfolding fineInput fineOutput startSession printedFrom printedBy judgedLine judgedBy askedText askedBy askedEvent refusedLine eventLine begunLine answerText refusalOf eventIn indexIn statedIn readingWithin statedReading eventBy letterOf fieldsOf firstField otherFields fieldAt temperatureLine aloneLine pairOf spelledStated numberAt indexOf decimalOf plusOf minusOf runOf allDigits isDigit valueOf isSpelt dataOf steppedChip takenStep quietStep tookTemperature zoneHeard zoneThreeFed readZone zoneFile comparedZone zoneWatched tempsWatched lowTemp highTemp zoneNumber withZone tickAnswer tickedChip missed missedFile missedZones missedVolts missedFans missedZone missedVolt missedFan voltWatched fanWatched lowLimit highLimit fanLimit fanLimitAt alertActive errorsStanding zoneCounts voltCounts fanCounts isSet driven driveAfter outputsAfter kickAfter dutyOf dutyAfter levelsOf rampsAfter rampAfter anyOn boostsAfter boostAfter kickedFan loadedStart fanDuty tablesAsk boundLargest rampedOn movedLevel delayOf isBoosted zoneEnabled registerAt zoneAt hotAt powerOn atRest defaults asksAfter stepsAfter askAfter stepAfter followed askedDuty newStep settled notAbove thresholdReached isReached sumTo tableOf unitOf followedZone zoneOne zoneTwo joinedZone hotterOf countTo refusalText tickText columnText digitsText digitOf askedOther writeLine writeBy readLine readBy threeOf threeBy twoOf twoBy nibbleOf hexByteOf writtenAnswer wroteByte wroteRegister changed changeOf changeHome changeKind changeWhole changeHalf zoneWritable isShut lockMarked lockMarks kindOf homeOf homes withHalf readingOf degreesOf stored storedByte writableOf writables withRegister transacted transactedPin latchAfter latchBy isOurs slaveAddress readAnswer seenAnswer readByte givenRegister givenAt givenByte fanByteAt byteOfKind shownRegister shownHome shownKind halfByte wholeByte halfSet wholeOf byteOf isOdd keptAfter keptAs ackText byteText hexText hexDigit defaultSetup
 fine-printed = refl

@@ -9,10 +9,11 @@ use Rattle.map.specs.Bits.{isSet}
 use Rattle.map.specs.Kind.{kindOf}
 use Rattle.map.specs.Slave.{slaveAddress}
 use Rattle.map.specs.FanBytes.{byteOfKind, fanByteAt}
+use Rattle.masks.specs.Masks.{stateBy, sleepState, isMasked, voltMasking, voltMasked}
 use Rattle.state.specs.Parts.{registerAt, inError}
 use Rattle.state.specs.With.{withRegister, withVolt, withInError}
 use Rattle.state.specs.PowerOn.{defaultSetup, powerOn}
-use Rattle.sense.specs.Errors.{withBit, markedVolt, lowLimit, highLimit, isOutside}
+use Rattle.sense.specs.Errors.{withBit, markedVolt, lowLimit, highLimit, isOutside, marked}
 use Rattle.sense.specs.Hysteresis.{hysteresisOf, lowMove, highMove, endsError, erringOn, erringAfter, erredVolt}
 use Rattle.sense.specs.Events.{feedsThree, feedsFour, fedZone, readVolt, tookVoltage}
 use Rattle.bus.specs.Latch.{latchBy, latchAfter, transactedPin, isOurs, transacted}
@@ -85,5 +86,5 @@ voltOutput =
     ∷ []
 
 pub volts-printed : printedFrom startSession 1 voltInput ≡ voltOutput
-unfolding voltInput voltOutput startSession printedFrom printedBy judgedLine judgedBy askedText askedBy askedEvent eventLine begunLine answerText refusalOf eventIn indexIn countIn eventBy letterOf fieldsOf firstField otherFields fieldAt numberAt indexOf countOf pairOf voltageLine writeLine writeBy threeOf threeBy readLine readBy twoOf twoBy isDigit allDigits valueOf runOf plusOf minusOf decimalOf isSpelt hexByteOf nibbleOf dataOf steppedChip takenStep quietStep tookVoltage readVolt fedZone feedsThree feedsFour withVolt withInError inError erredVolt erringAfter erringOn endsError lowMove highMove hysteresisOf lowLimit highLimit isOutside markedVolt withBit writtenAnswer wroteByte wroteRegister changed changeOf changeHome changeKind isShut stored storedByte cleared clearedByte withRegister writableOf writables lockMarked lockMarks isSet readAnswer seenAnswer readByte givenRegister givenAt fanByteAt byteOfKind shownRegister shownHome shownKind registerAt kindOf homeOf homes transacted transactedPin latchAfter latchBy isOurs slaveAddress powerOn defaultSetup defaults ackText byteText hexText hexDigit digitOf
+unfolding voltInput voltOutput startSession printedFrom printedBy judgedLine judgedBy askedText askedBy askedEvent eventLine begunLine answerText refusalOf eventIn indexIn countIn eventBy letterOf fieldsOf firstField otherFields fieldAt numberAt indexOf countOf pairOf voltageLine writeLine writeBy threeOf threeBy readLine readBy twoOf twoBy isDigit allDigits valueOf runOf plusOf minusOf decimalOf isSpelt hexByteOf nibbleOf dataOf steppedChip takenStep quietStep tookVoltage readVolt fedZone feedsThree feedsFour withVolt withInError inError erredVolt erringAfter erringOn endsError lowMove highMove hysteresisOf lowLimit highLimit isOutside markedVolt marked voltMasked voltMasking isMasked sleepState stateBy withBit writtenAnswer wroteByte wroteRegister changed changeOf changeHome changeKind isShut stored storedByte cleared clearedByte withRegister writableOf writables lockMarked lockMarks isSet readAnswer seenAnswer readByte givenRegister givenAt fanByteAt byteOfKind shownRegister shownHome shownKind registerAt kindOf homeOf homes transacted transactedPin latchAfter latchBy isOurs slaveAddress powerOn defaultSetup defaults ackText byteText hexText hexDigit digitOf
 volts-printed = refl

@@ -16,14 +16,14 @@ use Rattle.temperature.specs.Cases.{Shows, T, U}
 use Rattle.state.specs.declared.Chip.{Chip}
 use Rattle.state.specs.declared.Boost.the-variants as boost
 use Rattle.state.specs.declared.Count.the-variants.{Taken}
-use Rattle.state.specs.Parts.{registerAt, zoneAt}
+use Rattle.state.specs.Parts.{registerAt, zoneAt, inError}
 use Rattle.state.specs.With.{withRegister, withZone}
 use Rattle.state.specs.PowerOn.{defaultSetup, powerOn, atRest}
 use Rattle.state.specs.Made.{fresh}
 use Rattle.sense.specs.Errors.{fanLimit, fanLimitAt}
 use Rattle.sense.specs.Missing.{missed}
-use Rattle.sense.specs.Standing.{errorsStanding}
-use Rattle.sense.specs.Events.{tookVoltage, tookPin, resetFile, tookReset}
+use Rattle.sense.specs.Standing.{errorsStanding, alertActive}
+use Rattle.sense.specs.Events.{tookTemperature, tookVoltage, tookPin, resetFile, tookReset}
 use Rattle.sense.specs.Cases as sense
 use Rattle.bus.specs.Write.{wroteRegister}
 use Rattle.bus.specs.Read.{Byte, readByte}
@@ -47,6 +47,7 @@ use Rattle.determined.specs.PrintedVolts.{voltInput, voltOutput, volts-p
 use Rattle.determined.specs.PrintedFans.{fanInput, fanOutput, fans-printed}
 use Rattle.determined.specs.PrintedOffsets.{offsetInput, offsetOutput, offsets-printed}
 use Rattle.determined.specs.PrintedSixteenths.{fineInput, fineOutput, fine-printed}
+use Rattle.determined.specs.PrintedMasks.{maskInput, maskOutput, masks-printed}
 use Rattle.determined.specs.PrintedBlocks.{blockInput, blockOutput, blocks-printed, RepliesIn, rooms, too-many}
 
 -- the chip at power-on without a setup, with a byte stored at an address
@@ -92,6 +93,27 @@ fineFrom old n = newStep (tableOf defaultSetup 0x00 0) old (U (pos n))
 abbrev pub boostAt : ℤ → ℤ → Bool → Bool
 boostAt degrees n was = isBoosted true (boost.At degrees) 3 (U n) was
 
+-- zone 1 with limits at 78h and 79h and a byte at 31h, where Z1bE is bit 2
+abbrev pub zoneOneIn : ℕ → ℕ → ℕ → Chip
+zoneOneIn source low high = withRegister (withRegister (freshWith 0x31 source) 0x78 low) 0x79 high
+
+-- the errors standing after n sixteenths of zone 1a, by zone 1's limits
+abbrev pub zoneOneAt : ℕ → ℕ → ℤ → ℕ
+zoneOneAt low high n = errorsStanding (tookTemperature (zoneOneIn 0x00 low high) 0 (U n) .registers)
+
+-- the chip after a 79 of channel 7, whose limits are 80 and 100, in a sleep state: 0 is S0, 1 S1, 2 S3 and 3 S4/5
+abbrev pub sevenAsleep : ℕ → Chip
+sevenAsleep state = tookVoltage (withRegister (withRegister (freshWith 0x9C 80) 0x9D 100) 0xE4 state) 6 (Taken 79)
+
+-- the chip after a 79 of channel 7 in S0, then in a sleep state
+abbrev pub sevenThen : ℕ → Chip
+sevenThen state = withRegister (tookVoltage (withRegister (freshWith 0x9C 80) 0x9D 100) 6 (Taken 79)) 0xE4 state
+
+-- the errors standing after a tick at which a sensor is missing: watched by a limit's byte, in a sleep state, with a byte in a mask register
+abbrev pub missedIn : ℕ → ℕ → ℕ → ℕ → ℕ → ℕ
+missedIn limit byte state register mask =
+    errorsStanding (missed (withRegister (withRegister (freshWith limit byte) 0xE4 state) register mask) .registers)
+
 pub record Cases : Type 0 where
   -- ---- "Lines and refusals"
   -- "Input .. Output, whole": the bytes of the twelve lines, and those that they print behind the header
@@ -125,7 +147,7 @@ pub record Cases : Type 0 where
   -- "Comparing temperature bytes without their sign"
   pub signed : hotterOf (T (negsuc 0)) (T (pos 0)) ≡ T (pos 0)
   -- "Letting X clear error bits": fan 1's, with the limit's high byte 80h, missing at a tick
-  pub reset-keeps : errorsStanding (tookReset (missed (freshWith 0xB5 0x80)) .registers) ≡ 1
+  pub reset-keeps : registerAt (tookReset (missed (freshWith 0xB5 0x80))) 0x47 ≡ 0x01
   -- "or restore limits"
   pub limit-kept : registerAt (tookReset (freshWith 0x9C 80)) 0x9C ≡ 80
   -- "after R 2F 00 and A 1, R 2C 00 is still acknowledged"
@@ -210,6 +232,34 @@ pub record Cases : Type 0 where
   pub fine-boosts : (boostAt (pos 40) (pos 640) false ≡ true) × (boostAt (pos 40) (pos 639) false ≡ false) × (boostAt (pos 40) (pos 592) true ≡ true) × (boostAt (pos 40) (pos 591) true ≡ false)
   -- "the hotter of 1a and 1b" by one sixteenth
   pub fine-hotter : hotterOf (U (pos 561)) (T (pos 70)) ≡ U (pos 561)
+  -- ---- document 02, Q-12, "Sleep masks and temperature limits"
+  -- W, U, V, K and X lines of zone 1 and channel 7, from power-on: their bytes, and those that they print
+  pub masks : printedFrom startSession 1 maskInput ≡ maskOutput
+  -- "below its low or above its high limit .. compared with the full reading": limits of 20 and 25 degrees at 25, 25.0625, 20 and 19.9375
+  pub zone-beyond : (zoneOneAt 20 25 (pos 400) ≡ 0) × (zoneOneAt 20 25 (pos 401) ≡ 1) × (zoneOneAt 20 25 (pos 320) ≡ 0) × (zoneOneAt 20 25 (pos 319) ≡ 1)
+  -- "in signed whole degrees": 00h at -0.0625 and 0; F6h and FBh, -10 and -5 degrees, at either and a sixteenth past it
+  pub zone-signed : (zoneOneAt 0x00 25 (negsuc 0) ≡ 1) × (zoneOneAt 0x00 25 (pos 0) ≡ 0) × (zoneOneAt 0xF6 0xFB (negsuc 159) ≡ 0) × (zoneOneAt 0xF6 0xFB (negsuc 160) ≡ 1) × (zoneOneAt 0xF6 0xFB (negsuc 79) ≡ 0) × (zoneOneAt 0xF6 0xFB (negsuc 78) ≡ 1)
+  -- "80h low and 7Fh high; a zone with both is not watched and never errs": at 127.5 degrees, and missing at a tick, with 1b and 2b enabled. One
+  -- of them alone is a limit: 127 and 127.0625 with 81h low, -127 with 80h high, and with 7Eh high
+  pub zone-unwatched : (zoneOneAt 0x80 0x7F (pos 2040) ≡ 0) × (errorsStanding (missed (zoneOneIn 0x0C 0x80 0x7F) .registers) ≡ 0) × (zoneOneAt 0x81 0x7F (pos 2032) ≡ 0) × (zoneOneAt 0x81 0x7F (pos 2033) ≡ 1) × (zoneOneAt 0x80 0x80 (negsuc 2031) ≡ 1) × (zoneOneAt 0x80 0x7E (negsuc 2031) ≡ 0)
+  -- "nor does 1b or 2b while not enabled": 26 degrees of 1b, without Z1bE and with it
+  pub zone-not-enabled : (errorsStanding (tookTemperature (zoneOneIn 0x00 20 25) 1 (U (pos 416)) .registers) ≡ 0) × (registerAt (tookTemperature (zoneOneIn 0x04 20 25) 1 (U (pos 416))) 0x40 ≡ 0x01)
+  -- "sets its bit in both groups": zone 1's is bit 0 of 40h and of 48h
+  pub zone-groups : (registerAt (tookTemperature (zoneOneIn 0x00 20 25) 0 (U (pos 401))) 0x40 ≡ 0x01) × (registerAt (tookTemperature (zoneOneIn 0x00 20 25) 0 (U (pos 401))) 0x48 ≡ 0x01)
+  -- "missing sets it at the tick": 1a; not 1b, behind 25 degrees of 1a, without Z1bE; 1b with it; and zones 2, 3 and 4
+  pub zone-missing : (registerAt (missed (zoneOneIn 0x00 20 25)) 0x40 ≡ 0x01) × (registerAt (missed (tookTemperature (zoneOneIn 0x00 20 25) 0 (U (pos 400)))) 0x40 ≡ 0x00) × (registerAt (missed (tookTemperature (zoneOneIn 0x04 20 25) 0 (U (pos 400)))) 0x48 ≡ 0x01) × (registerAt (missed (freshWith 0x7A 0x00)) 0x40 ≡ 0x02) × (registerAt (missed (freshWith 0x7D 0x00)) 0x40 ≡ 0x04) × (registerAt (missed (freshWith 0x7F 0x00)) 0x48 ≡ 0x08)
+  -- "A masked bit is neither set": channel 7's in S0, S1, S3 and S4/5, and the channel is in error all the same
+  pub seven-masked : (errorsStanding (sevenAsleep 0 .registers) ≡ 1) × (errorsStanding (sevenAsleep 1 .registers) ≡ 1) × (registerAt (sevenAsleep 2) 0x41 ≡ 0x00) × (registerAt (sevenAsleep 2) 0x49 ≡ 0x00) × (errorsStanding (sevenAsleep 3 .registers) ≡ 0) × (inError (sevenAsleep 2) 6 ≡ true)
+  -- "nor counted, and one already standing remains until cleared but no longer holds ALERT": from S0 to S3, and to S0 again
+  pub standing-masked : (registerAt (sevenThen 2) 0x41 ≡ 0x40) × (errorsStanding (sevenThen 2 .registers) ≡ 0) × (alertActive (sevenThen 2 .registers) ≡ false) × (errorsStanding (withRegister (sevenThen 2) 0xE4 0 .registers) ≡ 1) × (alertActive (withRegister (sevenThen 2) 0xE4 0 .registers) ≡ true)
+  -- "the sleep state masks .. that source document 000 lists": channel 12 by bit 0 of E9h in S3 and of EBh in S4/5
+  pub twelve-masked : (missedIn 0xA6 0x01 2 0xE9 0x01 ≡ 0) × (missedIn 0xA6 0x01 2 0xE9 0x0E ≡ 1) × (missedIn 0xA6 0x01 3 0xEB 0x01 ≡ 0) × (missedIn 0xA6 0x01 3 0xEB 0x0E ≡ 1)
+  -- fan 1 by bit 0 of E6h in S1 and of E8h in S3, always in S4/5
+  pub fan-masked : (missedIn 0xB5 0x80 1 0xE6 0x01 ≡ 0) × (missedIn 0xB5 0x80 1 0xE6 0x0E ≡ 1) × (missedIn 0xB5 0x80 2 0xE8 0x01 ≡ 0) × (missedIn 0xB5 0x80 2 0xE8 0x0E ≡ 1) × (missedIn 0xB5 0x80 3 0xE8 0x00 ≡ 0)
+  -- zone 1 by bit 3 of E9h in S3 and of EBh in S4/5
+  pub zone-masked : (missedIn 0x78 0x00 2 0xE9 0x08 ≡ 0) × (missedIn 0x78 0x00 2 0xE9 0x07 ≡ 1) × (missedIn 0x78 0x00 3 0xEB 0x08 ≡ 0) × (missedIn 0x78 0x00 3 0xEB 0x07 ≡ 1)
+  -- channel 15 in S3 whatever E9h holds; channel 16 and zone 3 never
+  pub others-masked : (missedIn 0xAC 0x01 2 0xE9 0x00 ≡ 0) × (missedIn 0xAE 0x01 3 0xEB 0x0F ≡ 1) × (missedIn 0x7C 0x00 3 0xEB 0x0F ≡ 1)
 
 -- facts that stand in no other crate
 fan-limit : fanLimitAt (fresh .registers) 0 ≡ 0x3FFF
@@ -225,7 +275,7 @@ unfolding refusalOf eventIn indexIn statedIn readingWithin
 ranges = (refl, refl, refl, refl, refl, refl, refl, refl, refl)
 
 pub all : Cases
-unfolding sense.errorsAt sense.limited sense.errorsAgain sense.readTwice sense.bounded sense.sourced bus.written bus.zoneThree tookPin statedReading
+unfolding sense.errorsAt sense.limited sense.errorsAgain sense.readTwice sense.bounded sense.sourced sense.zoned sense.zoneErrors sense.asleep sense.errorsAsleep sense.standing sense.missedAsleep bus.written bus.zoneThree tookPin statedReading
 all = record {
   lines = printed;
   events = session-answers;
@@ -241,7 +291,7 @@ all = record {
   missing-mark = temperature.byte-cases .5;
   half-cleared = bus.zone-writes .1;
   signed = temperature.order-cases .4;
-  reset-keeps = sense.missing-fan .6;
+  reset-keeps = sense.missing-fan .7;
   limit-kept = limit;
   latched = bus.latch .0;
   blocks = blocks-printed;
@@ -279,4 +329,17 @@ all = record {
   fine-steps = (drive.fine-steps .0, drive.fine-steps .1, drive.fine-steps .2, drive.fine-steps .3, drive.fine-steps .4, drive.fine-steps .5);
   fine-boosts = (drive.fine-boosts .0, drive.fine-boosts .1, drive.fine-boosts .2, drive.fine-boosts .3);
   fine-hotter = temperature.order-cases .1;
+  masks = masks-printed;
+  zone-beyond = (sense.zone-one .0, sense.zone-one .1, sense.zone-one .2, sense.zone-one .3);
+  zone-signed = sense.zone-signed;
+  zone-unwatched = sense.zone-defaults;
+  zone-not-enabled = (sense.zone-enabled .0, sense.zone-enabled .1);
+  zone-groups = (sense.zone-one .4, sense.zone-one .5);
+  zone-missing = (sense.zone-enabled .2, sense.zone-enabled .3, sense.zone-enabled .4, sense.zones-missed .0, sense.zones-missed .1, sense.zones-missed .2);
+  seven-masked = (sense.channel-seven-masked .0, sense.channel-seven-masked .1, sense.channel-seven-masked .4, sense.channel-seven-masked .5, sense.channel-seven-masked .3, sense.channel-seven-masked .6);
+  standing-masked = sense.standing-masked;
+  twelve-masked = sense.channel-twelve-masked;
+  fan-masked = sense.fan-one-masked;
+  zone-masked = sense.zone-one-masked;
+  others-masked = sense.others-masked;
 }

@@ -1,12 +1,9 @@
 -- Document 01, "Fan duties", 2: boost; document 02, Q-7: "the tables and boosts compare" sixteenths. Assumes nothing.
 use mathlib.Core.Bool.{Bool, true, false}
 use Prim.Native.Nat.{ℕ, _*_}
-use lib.Dec.{eqb}
 use lib.IntN.{ℤ, pos, _-ℤ_, _*ℤ_}
 use lib.Signed.{leZ, ltZ}
 use Rattle.laws.specs.Pick.{pick}
-use Rattle.map.specs.Bits.{isSet}
-use Rattle.map.specs.Names.{Z1BE, Z2BE}
 use Rattle.temperature.specs.declared.Reading.{Reading}
 use Rattle.temperature.specs.declared.Reading.the-variants.{Taken, Missing}
 use Rattle.temperature.specs.Temperature.{DEGREE}
@@ -25,7 +22,3 @@ isBoosted false boost hysteresis reading was = false
 isBoosted true Off hysteresis reading was = false
 isBoosted true (At b) hysteresis Missing was = true
 isBoosted true (At b) hysteresis (Taken n) was = isLatched b hysteresis n was
-
--- "for zones 1a, 2a, 3, 4, and 1b, 2b while enabled"; source is 31h, zones count from 0 in the order 1a, 1b, 2a, 2b, 3, 4
-unfoldable pub boostEnabled : ℕ → ℕ → Bool
-boostEnabled source zone = pick (eqb zone 1) (isSet source Z1BE) (pick (eqb zone 3) (isSet source Z2BE) true)

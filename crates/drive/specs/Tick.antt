@@ -14,13 +14,13 @@ use Rattle.state.specs.declared.Chip.{Chip}
 use Rattle.state.specs.declared.Drive.{Drive}
 use Rattle.state.specs.declared.Setup.{Setup}
 use Rattle.state.specs.declared.Ramp.{Ramp}
-use Rattle.state.specs.Parts.{noRamp, noBoost, noOverride, registerAt, zoneAt, hotAt}
+use Rattle.state.specs.Parts.{noRamp, noBoost, noOverride, registerAt, zoneAt, zoneEnabled, hotAt}
 use Rattle.state.specs.With.{withDrive}
 use Rattle.state.specs.Made.{ofRegisters, ofZones, ofDrive, ofBoosts, ofRamps, ofKick}
 use Rattle.drive.specs.declared.Kick.{Kick}
 use Rattle.drive.specs.declared.Driven.{Driven}
 use Rattle.drive.specs.Tables.{followedZone, unitOf, tableFrom, tableOf, newStep, askedDuty}
-use Rattle.drive.specs.Boosts.{isBoosted, boostEnabled}
+use Rattle.drive.specs.Boosts.{isBoosted}
 use Rattle.drive.specs.Ramps.{delayOf, rampedOn}
 use Rattle.drive.specs.Duties.{fanDuty, kickedFan}
 
@@ -53,9 +53,10 @@ asksAfter c = askAfter c 0 .duty ∷ askAfter c 1 .duty ∷ askAfter c 2 .duty �
 
 -- ---- 2. boost
 
+-- "for zones 1a, 2a, 3, 4, and 1b, 2b while enabled"
 unfoldable pub boostAfter : Chip → ℕ → Bool
 boostAfter c zone =
-    isBoosted (boostEnabled (registerAt c TEMPERATURE-SOURCE-SELECT) zone) (getD (c .setup .boosts) zone noBoost .boost) (c .setup .«boost_hysteresis») (zoneAt c zone) (getD (c .drive .boosts) zone false)
+    isBoosted (zoneEnabled (registerAt c TEMPERATURE-SOURCE-SELECT) zone) (getD (c .setup .boosts) zone noBoost .boost) (c .setup .«boost_hysteresis») (zoneAt c zone) (getD (c .drive .boosts) zone false)
 
 unfoldable pub boostsAfter : Chip → List Bool
 boostsAfter c =

@@ -1,6 +1,7 @@
 -- Of two chips, one no hotter than the other, a tick gives the cooler one duties no higher, and leaves it no hotter. A tick changes nothing
 -- but what turns the fans. Assumes nothing.
 use mathlib.Core.Path.{_≡_, refl, subst₂}
+use mathlib.Core.Logic.{_≢_}
 use mathlib.Core.Bool.{Bool, false}
 use mathlib.Core.List.{List}
 use Prim.Native.Nat.{ℕ, _≤_, _<_}
@@ -8,7 +9,7 @@ use native.Mathlib.Omega.{arith}
 use lib.Dec.{T}
 use lib.ListN.{getD}
 use Rattle.laws.specs.Pointwise.{firsts-at, firsts-related}
-use Rattle.map.specs.Names.{TEMPERATURE-SOURCE-SELECT, FAN-CONTROL-BINDINGS, SPECIAL-FUNCTION-CONTROL-2, PWM-RAMP-CONTROL}
+use Rattle.map.specs.Names.{TEMPERATURE-SOURCE-SELECT, FAN-CONTROL-BINDINGS, B-ERROR-STATUS-1, H-ERROR-STATUS-1, SPECIAL-FUNCTION-CONTROL-2, PWM-RAMP-CONTROL}
 use Rattle.temperature.specs.Order.{NoHotter}
 use Rattle.state.specs.declared.Chip.{Chip}
 use Rattle.state.specs.declared.Ramp.{Ramp}
@@ -47,24 +48,36 @@ tick-duties c fan l = firsts-at (dutyOf c) 2 fan 0 l
 -- ---- a cooler chip, c, beside a hotter one, d
 
 module _ {c d : Chip} (k : Cooler c d) where
-  -- a register is the same
-  pub register-same : (a : ℕ) → registerAt c a ≡ registerAt d a
+  -- the registers that a tick goes by are the same: none of them has an error bit of a zone
+  register-same : (a : ℕ) → a ≢ B-ERROR-STATUS-1 → a ≢ H-ERROR-STATUS-1 → registerAt c a ≡ registerAt d a
   unfolding registerAt
-  register-same a = rw (k .registers)
+  register-same = k .registers .each
+
+  source-same : registerAt c TEMPERATURE-SOURCE-SELECT ≡ registerAt d TEMPERATURE-SOURCE-SELECT
+  source-same = register-same TEMPERATURE-SOURCE-SELECT (λ e. omega arith) (λ e. omega arith)
+
+  bindings-same : registerAt c FAN-CONTROL-BINDINGS ≡ registerAt d FAN-CONTROL-BINDINGS
+  bindings-same = register-same FAN-CONTROL-BINDINGS (λ e. omega arith) (λ e. omega arith)
+
+  units-same : registerAt c SPECIAL-FUNCTION-CONTROL-2 ≡ registerAt d SPECIAL-FUNCTION-CONTROL-2
+  units-same = register-same SPECIAL-FUNCTION-CONTROL-2 (λ e. omega arith) (λ e. omega arith)
+
+  delays-same : registerAt c PWM-RAMP-CONTROL ≡ registerAt d PWM-RAMP-CONTROL
+  delays-same = register-same PWM-RAMP-CONTROL (λ e. omega arith) (λ e. omega arith)
 
   -- a table is the same
   pub table-same : (table : ℕ) → tableOf (c .setup) (registerAt c SPECIAL-FUNCTION-CONTROL-2) table ≡ tableOf (d .setup) (registerAt d SPECIAL-FUNCTION-CONTROL-2) table
-  table-same table = cc (k .setup, register-same SPECIAL-FUNCTION-CONTROL-2)
+  table-same table = cc (k .setup, units-same)
 
   -- a ramp is the same
   pub ramp-same : (input : ℕ) → rampAfter c input ≡ rampAfter d input
   unfolding rampAfter hotAt
-  ramp-same input = cc (k .drive .ramps, k .hot, register-same PWM-RAMP-CONTROL)
+  ramp-same input = cc (k .drive .ramps, k .hot, delays-same)
 
   -- what a table follows is no hotter
   pub followed-rises : (table : ℕ) → NoHotter (followed c table) (followed d table)
   unfolding followed zoneAt
-  followed-rises table = rw (← register-same TEMPERATURE-SOURCE-SELECT, ← register-same FAN-CONTROL-BINDINGS) (followed-mono (c .zones) (d .zones) (k .zones) _ _ table)
+  followed-rises table = rw (← source-same, ← bindings-same) (followed-mono (c .zones) (d .zones) (k .zones) _ _ table)
 
   -- a table's step is no higher
   pub step-rises : (table : ℕ) → stepAfter c table ≤ stepAfter d table
@@ -74,7 +87,7 @@ module _ {c d : Chip} (k : Cooler c d) where
   -- a zone's boost that is on is on in the hotter chip
   pub boost-rises : (zone : ℕ) → T (boostAfter c zone) → T (boostAfter d zone)
   unfolding boostAfter zoneAt
-  boost-rises zone = rw (← register-same TEMPERATURE-SOURCE-SELECT, ← k .setup) (boost-mono _ _ _ _ _ (k .zones zone) (k .drive .boosts zone))
+  boost-rises zone = rw (← source-same, ← k .setup) (boost-mono _ _ _ _ _ (k .zones zone) (k .drive .boosts zone))
 
   -- the tables' steps are no higher
   pub table-steps-rise : (i : ℕ) → getD (stepsAfter c) i 0 ≤ getD (stepsAfter d) i 0

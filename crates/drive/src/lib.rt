@@ -4,7 +4,7 @@ ghost use Prim.Native.Nat.{_-_, _*_, _≤_, _<_, min, max};
 ghost use Rattle.laws.specs.Pick.{pick};
 ghost use Rattle.drive.specs.Tables.{joinedZone, zoneIn, zoneOne, zoneTwo, followedZone, unitOf, tableFrom, sumTo, isReached, thresholdReached, newStep, askedDuty};
 ghost use Rattle.drive.specs.Search.{lookUp, downward, LooksUp, searched};
-ghost use Rattle.drive.specs.Boosts.{isLatched, isBoosted, boostEnabled};
+ghost use Rattle.drive.specs.Boosts.{isLatched, isBoosted};
 ghost use Rattle.drive.specs.Ramps.{delayOf, movedLevel, rampedOn};
 ghost use Rattle.drive.specs.Duties.{boundLargest, tablesAsk, fanDuty, loadedStart, kickedFan};
 ghost use Rattle.drive.specs.Tick.{followed, unitBy, boostAfter, boostsAfter, anyOn, rampAfter, rampsAfter, levelsOf, dutyAfter, kickAfter, driven};
@@ -289,17 +289,6 @@ pub fn is_boosted(enabled: bool, boost: Boost, hysteresis: u8, reading: Reading,
     }
 }
 
-// Whether a zone can boost, by 31h: 1b and 2b only while enabled.
-pub fn boost_enabled(source: u8, zone: u8) -> bool
-    ensures { λ r. ⌜ r ≡ boostEnabled source zone ⌝ }
-{
-    match zone {
-        1 => map::is_set(source, bits::Z1BE),
-        3 => map::is_set(source, bits::Z2BE),
-        _ => true,
-    }
-}
-
 // The delay of a hot input's ramp, by BFh.
 pub fn delay_of(control: u8, input: u8) -> u8
     ensures { λ r. ⌜ r ≡ delayOf control input ⌝ }
@@ -464,7 +453,7 @@ fn boost_after(
     let boost = b.boost;
     let was = boosts[i];
     let source = file[registers::TEMPERATURE_SOURCE_SELECT as usize];
-    let enabled = boost_enabled(source, zone);
+    let enabled = state::zone_enabled(source, zone);
     is_boosted(enabled, boost, setup.boost_hysteresis, reading, was)
 }
 

@@ -1,11 +1,13 @@
 -- What an event keeps: no event changes the setup or how long a list of the chip is, and none but a tick changes the drive.
 -- Assumes nothing.
 use mathlib.Core.Path.{_≡_, refl, _∙_}
-use mathlib.Core.Bool.{Bool}
+use mathlib.Core.Bool.{Bool, true, false}
 use mathlib.Core.List.{List}
-use Prim.Native.Nat.{ℕ, zero, suc, _-_}
+use Prim.Native.Nat.{ℕ, _-_, _<_}
+use borrow.Author.Tests.{ltb-true}
 use lib.Dec.{ltb}
 use lib.ListN.{length, length-set}
+use Rattle.laws.specs.Pick.{pick}
 use Rattle.laws.specs.Pointwise.{pick-each}
 use Rattle.map.specs.Names.{TEMPERATURE-SOURCE-SELECT}
 use Rattle.temperature.specs.declared.Reading.{Reading}
@@ -15,13 +17,12 @@ use Rattle.state.specs.declared.Gauge.{Gauge}
 use Rattle.state.specs.declared.FanKept.{FanKept}
 use Rattle.state.specs.declared.Pin.{Pin}
 use Rattle.state.specs.declared.Count.{Count}
-use Rattle.state.specs.declared.Count.the-variants as count
 use Rattle.state.specs.Parts.{registerAt, inError}
 use Rattle.state.specs.With.{withRegisters, withPin, withRegister, withZone, withVolt, withInError, withFan, withHotInput}
-use Rattle.sense.specs.Errors.{withBit, markedVolt, markedFan, lowLimit, highLimit, fanLimitAt, comparedFan}
-use Rattle.sense.specs.Hysteresis.{erringAfter, erredVolt}
-use Rattle.sense.specs.Missing.{voltWatched, fanWatched, missedVolt, missedFan, missedVolts, missedFans, missedFile, missed}
-use Rattle.sense.specs.Events.{zoneHeard, tookTemperature, fedZone, fed-each, readVolt, tookVoltage, tookFan, tookHot, tookPin, resetFile, tookReset}
+use Rattle.sense.specs.Missing.{missed}
+use Rattle.sense.specs.Marks.{erred-volt-marks, compared-fan-marks, zone-file-marks}
+use Rattle.sense.specs.Alerts.{missed-marks}
+use Rattle.sense.specs.Events.{readZone, zoneHeard, tookTemperature, fedZone, fed-each, readVolt, tookVoltage, tookFan, tookHot, tookPin, resetFile, tookReset}
 use Rattle.bus.specs.Latch.{transacted}
 use Rattle.bus.specs.declared.Change.{Change}
 use Rattle.bus.specs.declared.Change.the-variants.{Nothing, Register, ZoneReading}
@@ -78,9 +79,9 @@ module _ (c : Chip) where
   unfolding withRegister
   shape-register a b = shape-registers _ (length-set (c .registers) a b)
 
-  shape-zone : (i : ℕ) (r : Reading) → SameShape c (withZone c i r)
-  unfolding withZone
-  shape-zone i r = shape-but c refl (length-set (c .zones) i _) refl refl refl refl refl
+  shape-zone : (i : ℕ) (r : Reading) → SameShape c (readZone c i r)
+  unfolding readZone withZone
+  shape-zone i r = shape-but c (zone-file-marks (c .registers) i r .long) (length-set (c .zones) i _) refl refl refl refl refl
 
   shape-volt : (i : ℕ) (n : Count) → SameShape c (withVolt c i n)
   unfolding withVolt
@@ -103,53 +104,6 @@ module _ (c : Chip) where
 
   shape-pin : (p : Pin) → SameShape c (withPin c p)
   shape-pin p = shape-but c refl refl refl refl refl refl refl
-
--- ---- the register file stays as long
-
-abbrev AsLong : List ℕ → List ℕ → Type 0
-AsLong file f = length f ≡ length file
-
-marked-volt-long : (file : List ℕ) (i : ℕ) → AsLong file (markedVolt file i)
-unfolding markedVolt withBit
-marked-volt-long file i = simp length-set
-
-marked-fan-long : (file : List ℕ) (i : ℕ) → AsLong file (markedFan file i)
-unfolding markedFan withBit
-marked-fan-long file i = simp length-set
-
-erred-volt-long : (file : List ℕ) (i : ℕ) (before : Bool) (n : Count) → AsLong file (erredVolt file i before n)
-unfolding erredVolt
-erred-volt-long file i before count.Missing = refl
-erred-volt-long file i before (count.Taken n) = pick-each (AsLong file) (erringAfter file i before (count.Taken n)) (marked-volt-long file i) refl
-
-compared-fan-long : (file : List ℕ) (i : ℕ) (n : Count) → AsLong file (comparedFan file i n)
-unfolding comparedFan
-compared-fan-long file i count.Missing = refl
-compared-fan-long file i (count.Taken n) = pick-each (AsLong file) (ltb (fanLimitAt file i) n) (marked-fan-long file i) refl
-
-missed-volt-long : (file : List ℕ) (i : ℕ) (n : Count) → AsLong file (missedVolt file i n)
-unfolding missedVolt
-missed-volt-long file i count.Missing = pick-each (AsLong file) (voltWatched (lowLimit file i) (highLimit file i)) (marked-volt-long file i) refl
-missed-volt-long file i (count.Taken n) = refl
-
-missed-fan-long : (file : List ℕ) (i : ℕ) (n : Count) → AsLong file (missedFan file i n)
-unfolding missedFan
-missed-fan-long file i count.Missing = pick-each (AsLong file) (fanWatched (fanLimitAt file i)) (marked-fan-long file i) refl
-missed-fan-long file i (count.Taken n) = refl
-
-missed-volts-long : (file : List ℕ) (volts : List Gauge) (n : ℕ) → AsLong file (missedVolts file volts n)
-unfolding missedVolts
-missed-volts-long file volts zero = refl
-missed-volts-long file volts (suc n) = missed-volt-long (missedVolts file volts n) n _ ∙ missed-volts-long file volts n
-
-missed-fans-long : (file : List ℕ) (fans : List Gauge) (n : ℕ) → AsLong file (missedFans file fans n)
-unfolding missedFans
-missed-fans-long file fans zero = refl
-missed-fans-long file fans (suc n) = missed-fan-long (missedFans file fans n) n _ ∙ missed-fans-long file fans n
-
-reset-long : (file : List ℕ) → AsLong file (resetFile file)
-unfolding resetFile
-reset-long file = simp length-set
 
 -- ---- the events
 
@@ -174,29 +128,32 @@ module _ (c : Chip) where
 module _ (c : Chip) where
   -- the missing marks of a tick
   pub missed-shape : SameShape c (missed c)
-  unfolding missed missedFile
-  missed-shape = shape-registers c _ (missed-fans-long _ (c .fans) 4 ∙ missed-volts-long (c .registers) (c .volts) 16)
+  unfolding missed
+  missed-shape = shape-registers c _ (missed-marks c .long)
 
   temperature-shape : (zone : ℕ) (r : Reading) → SameShape c (tookTemperature c zone r)
   unfolding tookTemperature
   temperature-shape zone r =
       pick-each (SameShape c) (zoneHeard (registerAt c TEMPERATURE-SOURCE-SELECT) zone) (shape-zone c zone r) (shape-self c)
 
-  volt-shape : (channel : ℕ) (n : Count) → SameShape c (readVolt c channel n)
+  volt-shape : (channel : ℕ) (n : Count) → channel < 16 → SameShape c (readVolt c channel n)
   unfolding readVolt withVolt
-  volt-shape channel n =
-      shape-on (shape-on (shape-volt c channel n) (shape-registers (withVolt c channel n) _ (erred-volt-long (c .registers) channel (inError c channel) n))) (shape-erring _ channel _)
+  volt-shape channel n l =
+      shape-on (shape-on (shape-volt c channel n) (shape-registers (withVolt c channel n) _ (erred-volt-marks (c .registers) channel l (inError c channel) n .long))) (shape-erring _ channel _)
 
   voltage-shape : (channel : ℕ) (n : Count) → SameShape c (tookVoltage c channel n)
   unfolding tookVoltage
-  voltage-shape channel n =
-      pick-each (SameShape c) (ltb channel 16) (shape-on (volt-shape channel n) (fed-shape _ channel n)) (shape-self c)
+  voltage-shape channel n = go (ltb channel 16) refl
+    where
+      go : (there : Bool) → ltb channel 16 ≡ there → SameShape c (pick there (fedZone (readVolt c channel n) channel n) c)
+      go true e = shape-on (volt-shape channel n (ltb-true channel 16 e)) (fed-shape _ channel n)
+      go false e = shape-self c
 
   fan-shape : (fan : ℕ) (n : Count) → SameShape c (tookFan c fan n)
   unfolding tookFan withFan
   fan-shape fan n =
       pick-each (SameShape c) (ltb fan 4)
-      (shape-on (shape-fan c fan n) (shape-registers (withFan c fan n) _ (compared-fan-long (c .registers) fan n)))
+      (shape-on (shape-fan c fan n) (shape-registers (withFan c fan n) _ (compared-fan-marks (c .registers) fan n .long)))
       (shape-self c)
 
   hot-shape : (input : ℕ) (h : Bool) → SameShape c (tookHot c input h)
@@ -208,8 +165,8 @@ module _ (c : Chip) where
   pin-shape level = shape-pin c _
 
   reset-shape : SameShape c (tookReset c)
-  unfolding tookReset
-  reset-shape = shape-registers c _ (reset-long (c .registers))
+  unfolding tookReset resetFile
+  reset-shape = shape-registers c _ (simp length-set)
 
   write-shape : (address a byte : ℕ) → SameShape c (wroteByte c address a byte .chip)
   write-shape address a byte =

@@ -13,6 +13,7 @@ use Rattle.map.specs.Bits.{isSet}
 use Rattle.map.specs.Kind.{kindOf}
 use Rattle.map.specs.FanBytes.{byteOfKind, fanByteAt}
 use Rattle.map.specs.Slave.{slaveAddress}
+use Rattle.masks.specs.Masks.{stateBy, sleepState, isMasked, fanMasking, fanMasked}
 use Rattle.temperature.specs.declared.Reading.the-variants as reading
 use Rattle.temperature.specs.declared.Stated.the-variants.{Halves}
 use Rattle.temperature.specs.Temperature.{statedReading, byteOf, wholeOf, wholeByte, hotterOf}
@@ -20,20 +21,21 @@ use Rattle.state.specs.declared.Chip.{Chip}
 use Rattle.state.specs.declared.Ramp.{Ramp}
 use Rattle.state.specs.declared.Latch.the-variants.{Held}
 use Rattle.state.specs.declared.Count.the-variants.{Taken}
-use Rattle.state.specs.Parts.{noRamp, registerAt, zoneAt, hotAt}
+use Rattle.state.specs.Parts.{noRamp, registerAt, zoneAt, zoneEnabled, hotAt}
 use Rattle.state.specs.With.{withRegisters, withPin, withDrive, withRegister, withZone, withHotInput}
 use Rattle.state.specs.PowerOn.{defaultSetup, powerOn, atRest}
 use Rattle.state.specs.Made.{fresh}
-use Rattle.sense.specs.Errors.{withBit, markedFan, lowLimit, highLimit, fanLimit, fanLimitAt}
-use Rattle.sense.specs.Missing.{voltWatched, fanWatched, missedVolt, missedFan, missedVolts, missedFans, missedFile}
-use Rattle.sense.specs.Standing.{bitsOf, errorsStanding, alertActive}
-use Rattle.sense.specs.Events.{zoneThreeFed, zoneHeard, tookTemperature, tookHot}
+use Rattle.sense.specs.Errors.{withBit, marked, markedFan, lowLimit, highLimit, fanLimit, fanLimitAt}
+use Rattle.sense.specs.ZoneLimits.{zoneNumber, lowTemp, highTemp, tempsWatched, zoneWatched, comparedZone, zoneFile}
+use Rattle.sense.specs.Missing.{voltWatched, fanWatched, missedVolt, missedFan, missedZone, missedVolts, missedFans, missedZones, missedFile}
+use Rattle.sense.specs.Standing.{zoneCounts, voltCounts, fanCounts, errorsStanding, alertActive}
+use Rattle.sense.specs.Events.{readZone, zoneThreeFed, zoneHeard, tookTemperature, tookHot}
 use Rattle.bus.specs.Latch.{latchBy, latchAfter, transactedPin, isOurs, transacted}
 use Rattle.bus.specs.Write.{storedByte, stored, changeKind, isShut, changeHome, changeOf, changed, wroteRegister, wroteByte}
 use Rattle.bus.specs.Read.{shownKind, shownHome, shownRegister, givenAt, givenRegister, keptAs, keptAfter, readByte}
 use Rattle.drive.specs.declared.Driven.{Driven}
 use Rattle.drive.specs.Tables.{joinedZone, zoneOne, zoneTwo, followedZone, unitOf, tableOf, sumTo, isReached, thresholdReached, notAbove, settled, newStep, askedDuty}
-use Rattle.drive.specs.Boosts.{isBoosted, boostEnabled}
+use Rattle.drive.specs.Boosts.{isBoosted}
 use Rattle.drive.specs.Ramps.{delayOf, movedLevel, rampedOn}
 use Rattle.drive.specs.Duties.{boundLargest, tablesAsk, fanDuty, loadedStart, kickedFan}
 use Rattle.drive.specs.Tick.{followed, stepAfter, askAfter, stepsAfter, asksAfter, boostAfter, boostsAfter, anyOn, rampAfter, rampsAfter, levelsOf, dutyAfter, dutyOf, kickAfter, driveAfter, outputsAfter, driven, driven-by-parts}
@@ -158,7 +160,7 @@ all-answered (next {a = a} g h) = rw (g .step) (ap (λ (xs : List Answer). a ∷
 
 -- T 1 70, T 5 66, and T 6 10, which is refused
 temperatures : Answered chip1 (Temperature 1 (Halves (pos 70))) Nothing chip2 × Answered chip2 (Temperature 5 (Halves (pos 66))) Nothing chip3 × Answered chip10 (Temperature 6 (Halves (pos 10))) (Refused 2) chip10
-unfolding steppedChip refusalOf eventIn indexIn statedIn readingWithin statedReading takenStep quietStep refusedStep tookTemperature zoneHeard zoneThreeFed isSet registerAt withZone powerOn defaults
+unfolding steppedChip refusalOf eventIn indexIn statedIn readingWithin statedReading takenStep quietStep refusedStep tookTemperature zoneHeard zoneThreeFed readZone zoneFile comparedZone zoneWatched tempsWatched lowTemp highTemp zoneNumber isSet registerAt withZone powerOn defaults
 temperatures = (record { step = refl }, record { step = refl }, record { step = refl })
 
 -- W 2C BF 01, W 2C B5 80
@@ -179,17 +181,17 @@ reads = (record { step = refl }, record { step = refl })
 -- ---- K
 
 -- a tick by its two parts, the missing marks and the fans, and what it then shows
-tick : (c : Chip) {file : List ℕ} {d : Driven} {a : Answer} → file ≡ missedFile (c .registers) (c .volts) (c .fans) → d ≡ driven (withRegisters c file) → tickFrom c file d .answer ≡ a → Answered c Tick a (withDrive (withRegisters c file) (d .drive))
+tick : (c : Chip) {file : List ℕ} {d : Driven} {a : Answer} → file ≡ missedFile (c .registers) (c .zones) (c .volts) (c .fans) → d ≡ driven (withRegisters c file) → tickFrom c file d .answer ≡ a → Answered c Tick a (withDrive (withRegisters c file) (d .drive))
 unfolding steppedChip refusalOf eventIn tickAnswer
 tick c {file} {d} marked turned shown = record {
   step = sym (tick-by-parts c [] marked (turned ∙ sym (driven-by-parts (withRegisters c file))))
       ∙ ap (λ (a : Answer). record { chip = withDrive (withRegisters c file) (d .drive); answer = a }) shown;
 }
 
--- no channel and no fan is watched, until the last write gives fan 1 a limit
-marks : (fresh .registers ≡ missedFile (fresh .registers) (fresh .volts) (fresh .fans)) × (chip6 .registers ≡ missedFile (chip6 .registers) (chip6 .volts) (chip6 .fans)) × (chip9 .registers ≡ missedFile (chip8 .registers) (chip8 .volts) (chip8 .fans))
-unfolding missedFile missedVolts missedFans missedVolt missedFan voltWatched fanWatched lowLimit highLimit fanLimit fanLimitAt markedFan withBit withRegister withZone withHotInput powerOn defaults
-marks = (refl, refl, refl)
+-- no channel, fan or zone is watched, until the last write gives fan 1 a limit
+marks : (fresh .registers ≡ missedFile (fresh .registers) (fresh .zones) (fresh .volts) (fresh .fans)) × (chip3 .registers ≡ missedFile (chip3 .registers) (chip3 .zones) (chip3 .volts) (chip3 .fans)) × (chip6 .registers ≡ missedFile (chip6 .registers) (chip6 .zones) (chip6 .volts) (chip6 .fans)) × (chip9 .registers ≡ missedFile (chip8 .registers) (chip8 .zones) (chip8 .volts) (chip8 .fans))
+unfolding missedFile missedVolts missedFans missedZones missedVolt missedFan missedZone voltWatched fanWatched zoneWatched tempsWatched lowLimit highLimit fanLimit fanLimitAt lowTemp highTemp zoneNumber markedFan marked fanMasked fanMasking isMasked sleepState stateBy isSet withBit withRegister withZone withHotInput powerOn defaults
+marks = (refl, refl, refl, refl)
 
 -- the steps of the four tables, and what they ask for
 abbrev Asks : Chip → List ℕ → List ℕ → Type 0
@@ -201,7 +203,7 @@ tables = ((refl, refl), (refl, refl), (refl, refl), (refl, refl))
 
 -- boosts, ramps, duties and the kick
 fans : (driven1 ≡ driven fresh) × (driven2 ≡ driven chip3) × (driven3 ≡ driven chip6) × (driven4 ≡ driven chip9)
-unfolding driven driveAfter outputsAfter kickAfter dutyOf dutyAfter levelsOf rampsAfter rampAfter anyOn boostsAfter boostAfter kickedFan loadedStart fanDuty tablesAsk boundLargest rampedOn movedLevel delayOf isBoosted boostEnabled registerAt zoneAt hotAt withRegister withZone withHotInput isSet powerOn atRest defaultSetup defaults
+unfolding driven driveAfter outputsAfter kickAfter dutyOf dutyAfter levelsOf rampsAfter rampAfter anyOn boostsAfter boostAfter kickedFan loadedStart fanDuty tablesAsk boundLargest rampedOn movedLevel delayOf isBoosted zoneEnabled registerAt zoneAt hotAt withRegister withZone withHotInput isSet powerOn atRest defaultSetup defaults
 fans = (
   rw (tables .0 .0, tables .0 .1),
   rw (tables .1 .0, tables .1 .1),
@@ -210,18 +212,18 @@ fans = (
 )
 
 pub session-answers : answersTo (powerOn defaultSetup) session ≡ answers
-unfolding session answers tickAnswer alertActive errorsStanding bitsOf isSet withRegister withZone withHotInput powerOn defaults
+unfolding session answers tickAnswer alertActive errorsStanding zoneCounts voltCounts fanCounts countTo fanMasked fanMasking isMasked sleepState stateBy isSet withRegister withZone withHotInput powerOn defaults
 session-answers =
     all-answered
     (next (tick fresh (marks .0) (fans .0) refl)
     (next (temperatures .0)
     (next (temperatures .1)
-    (next (tick chip3 (marks .0) (fans .1) refl)
+    (next (tick chip3 (marks .1) (fans .1) refl)
     (next (writes .0)
     (next hot
-    (next (tick chip6 (marks .1) (fans .2) refl)
+    (next (tick chip6 (marks .2) (fans .2) refl)
     (next (writes .1)
-    (next (tick chip8 (marks .2) (fans .3) refl)
+    (next (tick chip8 (marks .3) (fans .3) refl)
     (next (reads .0)
     (next (reads .1)
     (next (temperatures .2)

@@ -27,7 +27,7 @@ pub record ShownRange (t : Shown) : Type 0 where
   pub duty2 : t .duty2 ≤ 256
   pub output1 : t .output1 ≤ 256
   pub output2 : t .output2 ≤ 256
-  pub errors : t .errors ≤ 20
+  pub errors : t .errors ≤ 24
 
 -- ---- K on the parts
 
@@ -35,7 +35,7 @@ pub record ShownRange (t : Shown) : Type 0 where
 abbrev pub tickFrom : Chip → List ℕ → Driven → Stepped
 tickFrom c file d = tickAnswer (record { chip = withDrive (withRegisters c file) (d .drive); outputs = d .outputs })
 
-pub tick-by-parts : (c : Chip) (bytes : List ℕ) {file : List ℕ} {d : Driven} → file ≡ missedFile (c .registers) (c .volts) (c .fans) → d ≡ driven (ofDrive (c .setup) file (c .zones) (c .hot) (c .drive)) → tickFrom c file d ≡ takenStep c Tick bytes
+pub tick-by-parts : (c : Chip) (bytes : List ℕ) {file : List ℕ} {d : Driven} → file ≡ missedFile (c .registers) (c .zones) (c .volts) (c .fans) → d ≡ driven (ofDrive (c .setup) file (c .zones) (c .hot) (c .drive)) → tickFrom c file d ≡ takenStep c Tick bytes
 unfolding takenStep tickAnswer tickedChip missed driven
 tick-by-parts c bytes {file} marked turned =
     ap (tickFrom c file) turned
@@ -70,7 +70,7 @@ module _ (c : Chip) where
   unfolding steppedChip refusalOf eventIn takenStep tickAnswer tickedChip driveAfter tickShown
   tick-answers = refl
 
-  -- a tick shows duties and outputs of 0 to 256, and 0 to 20 errors
+  -- a tick shows duties and outputs of 0 to 256, and 0 to 24 errors
   pub shown-range : Valid (c .setup) → InRange (c .drive) → ShownRange tickShown
   unfolding tickShown
   shown-range v r = record {

@@ -1,4 +1,5 @@
-// The events of the chip: each is taken, or refused by its number (document 01, "Events" and "Lines and refusals"; document 02, Q-1 and Q-7).
+// The events of the chip: each is taken, or refused by its number (document 01, "Events" and "Lines and refusals"; document 02, Q-1, Q-7 and
+// Q-12).
 ghost use mathlib.Core.Path.{_≡_};
 ghost use mathlib.Core.Bool.{true};
 ghost use lib.Dec.{eqb};
@@ -283,10 +284,10 @@ pub fn step(chip: Chip, event: Event, bytes: &[u8]) -> Stepped
                 let at = zone - 1;
                 let source = next.registers[registers::TEMPERATURE_SOURCE_SELECT as usize];
                 if sense::hears_zone(source, at) {
-                    let z = Zone {
-                        reading: stated_reading(stated),
-                    };
+                    let reading = stated_reading(stated);
+                    let z = Zone { reading: reading };
                     next.zones[at as usize] = z;
+                    sense::compare_zone(&mut next.registers, at, reading);
                 }
             }
             Event::Voltage { channel, count } => {
@@ -297,13 +298,14 @@ pub fn step(chip: Chip, event: Event, bytes: &[u8]) -> Stepped
                 let erring = sense::compare_voltage(&mut next.registers, at, before, count);
                 next.erring[at as usize] = erring;
                 let source = next.registers[registers::TEMPERATURE_SOURCE_SELECT as usize];
-                let z = Zone {
-                    reading: sense::volt_reading(count),
-                };
+                let reading = sense::volt_reading(count);
+                let z = Zone { reading: reading };
                 if sense::feeds_three(source, at) {
                     next.zones[4] = z;
+                    sense::compare_zone(&mut next.registers, 4, reading);
                 } else if sense::feeds_four(source, at) {
                     next.zones[5] = z;
+                    sense::compare_zone(&mut next.registers, 5, reading);
                 }
             }
             Event::Fan { fan, count } => {
@@ -320,11 +322,11 @@ pub fn step(chip: Chip, event: Event, bytes: &[u8]) -> Stepped
                 next.pin.level = level_of(level);
             }
             Event::Tick => {
+                let zones = next.zones;
                 let volts = next.volts;
                 let fans = next.fans;
-                sense::mark_missing(&mut next.registers, volts, fans);
+                sense::mark_missing(&mut next.registers, zones, volts, fans);
                 let setup = next.setup;
-                let zones = next.zones;
                 let hot = next.hot;
                 let old = next.drive;
                 let driven = drive::tick(setup, &next.registers, zones, hot, old);
@@ -366,6 +368,7 @@ pub fn step(chip: Chip, event: Event, bytes: &[u8]) -> Stepped
                         Change::ZoneReading(zone, reading) => {
                             let written = state::with_reading(zones, zone, reading);
                             next.zones = written;
+                            sense::compare_zone(&mut next.registers, zone, reading);
                         }
                     }
                 }

@@ -15,5 +15,6 @@ pub mod Store
 pub mod Masks
 pub mod Shift
 pub mod Bits
+pub mod Binary
 pub mod Left
 pub mod TabEach

@@ -1,4 +1,4 @@
--- The facts that document 01 asks of the map, each a value of the tables. Assumes nothing.
+-- The facts that documents 01 and 02 ask of the map, each a value of the tables. Assumes nothing.
 use mathlib.Core.Path.{_≡_, refl}
 use mathlib.Core.Bool.{true, false}
 use Rattle.map.specs.Tables.{defaults, writables, lockMarks, homes}
@@ -42,7 +42,15 @@ mirrors = (
   (refl, refl, refl, refl, refl, refl, refl, refl, refl, refl),
 )
 
--- LOCK and GMSK are clear at power-on, and LOCK keeps its own register; the sleep state starts as 000 has it
-pub configuration : (defaultOf CONFIGURATION ≡ 0x00) × (lockMarked CONFIGURATION ≡ true) × (defaultOf SLEEP-STATE-CONTROL ≡ 0x03) × (lockMarked SLEEP-STATE-CONTROL ≡ false)
+-- LOCK and GMSK are clear at power-on, and LOCK keeps its own register; 02, Q-12: "on the bench the sleep state starts at S0"
+pub configuration : (defaultOf CONFIGURATION ≡ 0x00) × (lockMarked CONFIGURATION ≡ true) × (defaultOf SLEEP-STATE-CONTROL ≡ 0x00) × (lockMarked SLEEP-STATE-CONTROL ≡ false)
 unfolding defaultOf lockMarked defaults lockMarks
 configuration = (refl, refl, refl, refl)
+
+-- 02, Q-12: "Zone limits start at the bench's own 80h low and 7Fh high", of zones 1 to 4
+pub zone-limits : ((defaultOf 0x78 ≡ 0x80) × (defaultOf 0x79 ≡ 0x7F))
+    × ((defaultOf 0x7A ≡ 0x80) × (defaultOf 0x7B ≡ 0x7F))
+    × ((defaultOf 0x7C ≡ 0x80) × (defaultOf 0x7D ≡ 0x7F))
+    × ((defaultOf 0x7E ≡ 0x80) × (defaultOf 0x7F ≡ 0x7F))
+unfolding defaultOf defaults
+zone-limits = ((refl, refl), (refl, refl), (refl, refl), (refl, refl))

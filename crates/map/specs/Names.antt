@@ -10,6 +10,9 @@ TEMPERATURE-SOURCE-SELECT = 0x31
 abbrev pub FAN-CONTROL-BINDINGS : ℕ
 FAN-CONTROL-BINDINGS = 0x35
 
+abbrev pub B-ERROR-STATUS-1 : ℕ
+B-ERROR-STATUS-1 = 0x40
+
 abbrev pub B-ERROR-STATUS-2 : ℕ
 B-ERROR-STATUS-2 = 0x41
 
@@ -18,6 +21,9 @@ B-ERROR-STATUS-3 = 0x42
 
 abbrev pub B-FAN-ERROR-STATUS : ℕ
 B-FAN-ERROR-STATUS = 0x47
+
+abbrev pub H-ERROR-STATUS-1 : ℕ
+H-ERROR-STATUS-1 = 0x48
 
 abbrev pub H-ERROR-STATUS-2 : ℕ
 H-ERROR-STATUS-2 = 0x49
@@ -30,6 +36,9 @@ FAN-TACH-1-LSB = 0x6E
 
 abbrev pub FAN-TACH-1-MSB : ℕ
 FAN-TACH-1-MSB = 0x6F
+
+abbrev pub ZONE-1-LOW-TEMP : ℕ
+ZONE-1-LOW-TEMP = 0x78
 
 abbrev pub AD-IN1-LOW-LIMIT : ℕ
 AD-IN1-LOW-LIMIT = 0x90
@@ -51,6 +60,18 @@ CONFIGURATION = 0xE3
 
 abbrev pub SLEEP-STATE-CONTROL : ℕ
 SLEEP-STATE-CONTROL = 0xE4
+
+abbrev pub S1-FAN-MASK : ℕ
+S1-FAN-MASK = 0xE6
+
+abbrev pub S3-FAN-MASK : ℕ
+S3-FAN-MASK = 0xE8
+
+abbrev pub S3-TEMPERATURE-VOLTAGE-MASK : ℕ
+S3-TEMPERATURE-VOLTAGE-MASK = 0xE9
+
+abbrev pub S4-5-TEMPERATURE-VOLTAGE-MASK : ℕ
+S4-5-TEMPERATURE-VOLTAGE-MASK = 0xEB
 
 -- ---- block commands: the first, the second and the last of the twelve fixed blocks
 
@@ -112,9 +133,16 @@ LOCK = 0x02
 abbrev pub GMSK : ℕ
 GMSK = 0x04
 
--- of E4h: the sleep state S4/S5
+-- of E4h: the field of the sleep state, and S4/S5 in it
+abbrev pub SB : ℕ
+SB = 0x03
+
 abbrev pub S4-5 : ℕ
 S4-5 = 0x03
+
+-- of E9h and EBh: zones 1 and 2
+abbrev pub TEMP-MSK : ℕ
+TEMP-MSK = 0x08
 
 -- of 10h, 12h, 14h, 16h, 20h and 22h: the half bit
 abbrev pub HALF : ℕ

@@ -33,8 +33,19 @@ pub const LOCK: u8 = 0x02;
 
 pub const GMSK: u8 = 0x04;
 
-// SLEEP_STATE_CONTROL, E4h: the sleep state S4/S5
+// SLEEP_STATE_CONTROL, E4h: the field of the sleep state, and the states
+pub const SB: u8 = 0x03;
+
+pub const S0: u8 = 0x00;
+
+pub const S1: u8 = 0x01;
+
+pub const S3: u8 = 0x02;
+
 pub const S4_5: u8 = 0x03;
+
+// S3_TEMPERATURE_VOLTAGE_MASK, E9h, and S4_5_TEMPERATURE_VOLTAGE_MASK, EBh: zones 1 and 2
+pub const TEMP_MSK: u8 = 0x08;
 
 // The half bit of an extended-resolution register, 10h to 16h, 20h and 22h
 pub const HALF: u8 = 0x80;

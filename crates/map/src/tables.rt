@@ -123,13 +123,13 @@ pub const DEFAULTS: [u8; 256] = [
     0x00, // 76h absent
     0x00, // 77h absent
     0x80, // 78h ZONE_1_LOW_TEMP
-    0x80, // 79h ZONE_1_HIGH_TEMP
+    0x7F, // 79h ZONE_1_HIGH_TEMP
     0x80, // 7Ah ZONE_2_LOW_TEMP
-    0x80, // 7Bh ZONE_2_HIGH_TEMP
+    0x7F, // 7Bh ZONE_2_HIGH_TEMP
     0x80, // 7Ch ZONE_3_LOW_TEMP
-    0x80, // 7Dh ZONE_3_HIGH_TEMP
+    0x7F, // 7Dh ZONE_3_HIGH_TEMP
     0x80, // 7Eh ZONE_4_LOW_TEMP
-    0x80, // 7Fh ZONE_4_HIGH_TEMP
+    0x7F, // 7Fh ZONE_4_HIGH_TEMP
     0x3C, // 80h FAN_BOOST_TEMP_ZONE_1
     0x3C, // 81h FAN_BOOST_TEMP_ZONE_2
     0x23, // 82h FAN_BOOST_TEMP_ZONE_3
@@ -230,7 +230,7 @@ pub const DEFAULTS: [u8; 256] = [
     0x3F, // E1h TACH_BOOST_CONTROL
     0x00, // E2h STATUS_CONTROL
     0x00, // E3h CONFIGURATION
-    0x03, // E4h SLEEP_STATE_CONTROL
+    0x00, // E4h SLEEP_STATE_CONTROL
     0xFF, // E5h S1_GPI_MASK
     0x0F, // E6h S1_FAN_MASK
     0xFF, // E7h S3_GPI_MASK

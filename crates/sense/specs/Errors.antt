@@ -1,5 +1,5 @@
--- Document 01, "Errors and ALERT": the error bits of voltages and fans, over the register file. Channels and fans count from 0.
--- Assumes nothing.
+-- Document 01, "Errors and ALERT": the error bits of voltages and fans, over the register file, as document 02, Q-12, amends them: "A masked
+-- bit is neither set nor counted". Channels and fans count from 0. Assumes nothing.
 use mathlib.Core.Bool.{Bool}
 use mathlib.Core.List.{List}
 use Prim.Native.Nat.{ℕ, _+_, _*_, _/_, _%_, _^_}
@@ -8,6 +8,7 @@ use lib.Dec.{ltb}
 use lib.ListN.{getD, set}
 use Rattle.laws.specs.Pick.{pick, either}
 use Rattle.map.specs.Names.{B-ERROR-STATUS-2, B-FAN-ERROR-STATUS, H-ERROR-STATUS-2, H-FAN-ERROR-STATUS, AD-IN1-LOW-LIMIT, FAN-TACH-1-LIMIT-LSB}
+use Rattle.masks.specs.Masks.{voltMasked, fanMasked}
 use Rattle.state.specs.declared.Count.{Count}
 use Rattle.state.specs.declared.Count.the-variants.{Taken, Missing}
 
@@ -15,14 +16,17 @@ use Rattle.state.specs.declared.Count.the-variants.{Taken, Missing}
 unfoldable pub withBit : List ℕ → ℕ → ℕ → List ℕ
 withBit file a bit = set file a (bitOr (getD file a 0) bit)
 
+-- "sets its bit in both groups", in the BMC group's register and in the Host group's, unless it is masked
+unfoldable pub marked : Bool → List ℕ → ℕ → ℕ → ℕ → List ℕ
+marked masked file bmc host bit = pick masked file (withBit (withBit file bmc bit) host bit)
+
 -- "sets the channel's bit (BMC: 41h and 42h, channel 1 at bit 0 of 41h) in the BMC and the Host group"
 unfoldable pub markedVolt : List ℕ → ℕ → List ℕ
-markedVolt file i =
-    withBit (withBit file (B-ERROR-STATUS-2 + i / 8) (2 ^ (i % 8))) (H-ERROR-STATUS-2 + i / 8) (2 ^ (i % 8))
+markedVolt file i = marked (voltMasked file i) file (B-ERROR-STATUS-2 + i / 8) (H-ERROR-STATUS-2 + i / 8) (2 ^ (i % 8))
 
--- "sets its bit in both groups"
+-- of a fan: 47h and 4Fh
 unfoldable pub markedFan : List ℕ → ℕ → List ℕ
-markedFan file i = withBit (withBit file B-FAN-ERROR-STATUS (2 ^ i)) H-FAN-ERROR-STATUS (2 ^ i)
+markedFan file i = marked (fanMasked file i) file B-FAN-ERROR-STATUS H-FAN-ERROR-STATUS (2 ^ i)
 
 -- a voltage's limits
 unfoldable pub lowLimit : List ℕ → ℕ → ℕ

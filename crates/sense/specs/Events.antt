@@ -1,5 +1,5 @@
--- Document 01, "Events", and 02, Q-2 and Q-7: T and U, V, F, H, A and X on the chip. Zones, channels, fans and inputs count from 0; one that
--- is not there changes nothing. Assumes nothing.
+-- Document 01, "Events", and 02, Q-2, Q-7 and Q-12: T and U, V, F, H, A and X on the chip. Zones, channels, fans and inputs count from 0;
+-- one that is not there changes nothing. Assumes nothing.
 use mathlib.Core.Path.{_≡_}
 use mathlib.Core.Bool.{Bool, not}
 use mathlib.Core.List.{List}
@@ -22,6 +22,13 @@ use Rattle.state.specs.Parts.{registerAt, inError}
 use Rattle.state.specs.With.{withRegisters, withPin, withZone, withVolt, withInError, withFan, withHotInput}
 use Rattle.sense.specs.Errors.{comparedFan, fanFile}
 use Rattle.sense.specs.Hysteresis.{erringAfter, erredVolt, voltageFile, voltageErring}
+use Rattle.sense.specs.ZoneLimits.{zoneFile}
+
+-- ---- a zone's reading
+
+-- the zone has it, and it is compared: 02, Q-12, "at the event that sets the reading"
+unfoldable pub readZone : Chip → ℕ → Reading → Chip
+readZone c zone r = withRegisters (withZone c zone r) (zoneFile (c .registers) zone r)
 
 -- ---- T and U
 
@@ -35,7 +42,7 @@ zoneHeard source zone = either (ltb zone 4) (both (eqb zone 4) (not (zoneThreeFe
 
 -- "T, zone 1 to 5 (1a, 1b, 2a, 2b, zone 3)"; 02: "U carries sixteenths for zones 1 to 5"
 unfoldable pub tookTemperature : Chip → ℕ → Reading → Chip
-tookTemperature c zone r = pick (zoneHeard (registerAt c TEMPERATURE-SOURCE-SELECT) zone) (withZone c zone r) c
+tookTemperature c zone r = pick (zoneHeard (registerAt c TEMPERATURE-SOURCE-SELECT) zone) (readZone c zone r) c
 
 -- ---- V
 
@@ -54,11 +61,11 @@ feedsFour source channel = both (eqb channel 14) (isSet source EXT-AD15)
 
 unfoldable pub fedZone : Chip → ℕ → Count → Chip
 fedZone c channel n =
-    pick (feedsThree (registerAt c TEMPERATURE-SOURCE-SELECT) channel) (withZone c 4 (voltReading n))
-    (pick (feedsFour (registerAt c TEMPERATURE-SOURCE-SELECT) channel) (withZone c 5 (voltReading n)) c)
+    pick (feedsThree (registerAt c TEMPERATURE-SOURCE-SELECT) channel) (readZone c 4 (voltReading n))
+    (pick (feedsFour (registerAt c TEMPERATURE-SOURCE-SELECT) channel) (readZone c 5 (voltReading n)) c)
 
 -- what holds whichever zone is fed, or none
-pub fed-each : (P : Chip → Type 0) (c : Chip) (channel : ℕ) (n : Count) → P (withZone c 4 (voltReading n)) → P (withZone c 5 (voltReading n)) → P c → P (fedZone c channel n)
+pub fed-each : (P : Chip → Type 0) (c : Chip) (channel : ℕ) (n : Count) → P (readZone c 4 (voltReading n)) → P (readZone c 5 (voltReading n)) → P c → P (fedZone c channel n)
 unfolding fedZone
 fed-each P c channel n three four none =
     pick-each P (feedsThree (registerAt c TEMPERATURE-SOURCE-SELECT) channel) three

@@ -1,6 +1,6 @@
 -- Laws of document 02, Q-2: which readings start and end a channel's error, which leave it, and the bit that they set; and that with VH 0
 -- the error bits are those of document 01's rule. Channels count from 0. Assumes nothing.
-use mathlib.Core.Path.{_≡_, refl, _∙_}
+use mathlib.Core.Path.{_≡_, refl}
 use mathlib.Core.Bool.{Bool, true, false, not}
 use mathlib.Core.List.{List}
 use Prim.Native.Nat.{ℕ, _+_, _≤_, _<_}
@@ -12,15 +12,18 @@ use lib.Seq.{getD-set-same}
 use Rattle.laws.specs.Pick.{both, either}
 use Rattle.laws.specs.Both.{both-false, both-with-true, both-left, both-right, both-true}
 use Rattle.laws.specs.Pointwise.{pick-same}
+use Rattle.masks.specs.Masks.{voltMasked}
 use Rattle.state.specs.declared.Chip.{Chip}
 use Rattle.state.specs.declared.Count.{Count}
 use Rattle.state.specs.declared.Count.the-variants.{Taken, Missing}
 use Rattle.state.specs.Parts.{inError}
 use Rattle.state.specs.With.{withZone, withVolt, withInError}
+use Rattle.state.specs.Order.{SameButZones}
 use Rattle.sense.specs.Errors.{lowLimit, highLimit, isOutside, comparedVolt}
 use Rattle.sense.specs.Hysteresis.{hysteresisOf, lowMove, highMove, endsError, erringOn, erringAfter, erredVolt}
-use Rattle.sense.specs.Events.{fedZone, fed-each, readVolt, tookVoltage}
+use Rattle.sense.specs.Events.{readZone, voltReading, fedZone, fed-each, readVolt, tookVoltage}
 use Rattle.sense.specs.Marks.{VoltStands, volt-stands}
+use Rattle.sense.specs.ButZones.{but-self, zone-file}
 
 module _ (low high vh n : ℕ) where
   -- ---- a reading
@@ -140,10 +143,10 @@ zero-errors file i before (Taken n) z = rw (z, zero-erring (lowLimit file i) (hi
 -- ---- the register file after a reading
 
 module _ (file : List ℕ) (i : ℕ) (before : Bool) (n : ℕ) where
-  -- a reading that leaves the channel in error has its bit standing in both groups
-  pub erring-stands : i < 16 → length file ≡ 256 → erringAfter file i before (Taken n) ≡ true → VoltStands (erredVolt file i before (Taken n)) i
+  -- a reading that leaves the channel in error, and is not masked, has its bit standing in both groups
+  pub erring-stands : i < 16 → length file ≡ 256 → voltMasked file i ≡ false → erringAfter file i before (Taken n) ≡ true → VoltStands (erredVolt file i before (Taken n)) i
   unfolding erredVolt
-  erring-stands l long e = rw e (volt-stands file i l long)
+  erring-stands l long u e = rw e (volt-stands file i l u long)
 
   -- and one that does not sets none
   pub sound-sets-none : erringAfter file i before (Taken n) ≡ false → erredVolt file i before (Taken n) ≡ file
@@ -152,17 +155,18 @@ module _ (file : List ℕ) (i : ℕ) (before : Bool) (n : ℕ) where
 
 -- ---- V on the chip
 
--- the zone that a voltage feeds is no register, and not whether a channel is in error
-fed-registers : (c : Chip) (channel : ℕ) (n : Count) → fedZone c channel n .registers ≡ c .registers
-unfolding withZone
-fed-registers c channel n = fed-each (λ (d : Chip). d .registers ≡ c .registers) c channel n refl refl refl
+-- the zone that a voltage feeds changes no register but those of the zones' error bits, and not whether a channel is in error
+fed-registers : (c : Chip) (channel : ℕ) (n : Count) → SameButZones (c .registers) (fedZone c channel n .registers)
+unfolding readZone withZone
+fed-registers c channel n =
+    fed-each (λ (d : Chip). SameButZones (c .registers) (d .registers)) c channel n (zone-file (c .registers) 4 (voltReading n)) (zone-file (c .registers) 5 (voltReading n)) (but-self (c .registers))
 
 fed-erring : (c : Chip) (channel : ℕ) (n : Count) → fedZone c channel n .erring ≡ c .erring
-unfolding withZone
+unfolding readZone withZone
 fed-erring c channel n = fed-each (λ (d : Chip). d .erring ≡ c .erring) c channel n refl refl refl
 
 module _ (c : Chip) (channel : ℕ) (n : Count) (l : channel < 16) where
-  pub volt-registers : tookVoltage c channel n .registers ≡ erredVolt (c .registers) channel (inError c channel) n
+  pub volt-registers : SameButZones (erredVolt (c .registers) channel (inError c channel) n) (tookVoltage c channel n .registers)
   unfolding tookVoltage readVolt withVolt withInError
   volt-registers = rw (lt-ltb channel 16 l) (fed-registers _ channel n)
 
@@ -170,6 +174,6 @@ module _ (c : Chip) (channel : ℕ) (n : Count) (l : channel < 16) where
   unfolding tookVoltage readVolt withVolt withInError inError
   volt-erring long = rw (lt-ltb channel 16 l, fed-erring _ channel n) (getD-set-same (c .erring) channel _ false (omega (arith, long)))
 
-  -- with VH 0 the registers are those of document 01's rule
-  pub zero-registers : hysteresisOf (c .registers) ≡ 0 → tookVoltage c channel n .registers ≡ comparedVolt (c .registers) channel n
-  zero-registers z = volt-registers ∙ zero-errors (c .registers) channel (inError c channel) n z
+  -- with VH 0 the registers are those of document 01's rule, but for the bit of a zone that is fed
+  pub zero-registers : hysteresisOf (c .registers) ≡ 0 → SameButZones (comparedVolt (c .registers) channel n) (tookVoltage c channel n .registers)
+  zero-registers z = rw (zero-errors (c .registers) channel (inError c channel) n z) at volt-registers

@@ -22,15 +22,15 @@ use Rattle.state.specs.Parts.{noZone, noGauge, registerAt, zoneAt, voltAt, inEr
 use Rattle.state.specs.With.{withRegisters, withZone, withVolt, withInError, withFan, withHotInput}
 use Rattle.sense.specs.Errors.{comparedFan}
 use Rattle.sense.specs.Missing.{missed}
-use Rattle.sense.specs.Events.{zoneHeard, tookTemperature, voltReading, fedZone, fed-each, readVolt, tookVoltage, tookFan, tookHot, tookPin, resetFile, tookReset}
-use Rattle.sense.specs.Marks.{Marks, marks-none, erred-volt-marks, compared-fan-marks}
+use Rattle.sense.specs.Events.{readZone, zoneHeard, tookTemperature, voltReading, fedZone, fed-each, readVolt, tookVoltage, tookFan, tookHot, tookPin, resetFile, tookReset}
+use Rattle.sense.specs.Marks.{Marks, marks-none, marks-then, erred-volt-marks, compared-fan-marks, zone-file-marks}
 
--- ---- T: one zone's reading, and no other part
+-- ---- T: one zone's reading and its error bits
 
--- every part but the zones, and every other zone
+-- the registers but for marks, every other zone, and the other parts
 pub record TemperatureKeeps (c d : Chip) (zone : ℕ) : Type 0 where
   pub setup : d .setup ≡ c .setup
-  pub registers : d .registers ≡ c .registers
+  pub registers : Marks (c .registers) (d .registers)
   pub zones : (i : ℕ) → i ≢ zone → zoneAt d i ≡ zoneAt c i
   pub volts : d .volts ≡ c .volts
   pub erring : d .erring ≡ c .erring
@@ -46,19 +46,19 @@ zone-other c zone i r n = ap (λ (z : Zone). z .reading) (getD-set-other (c .zon
 
 temperature-same : (c : Chip) (zone : ℕ) → TemperatureKeeps c c zone
 temperature-same c zone =
-    record { setup = refl; registers = refl; zones = λ i n. refl; volts = refl; erring = refl; fans = refl; kept = refl; hot = refl; pin = refl; drive = refl }
+    record { setup = refl; registers = marks-none (c .registers); zones = λ i n. refl; volts = refl; erring = refl; fans = refl; kept = refl; hot = refl; pin = refl; drive = refl }
 
-temperature-set : (c : Chip) (zone : ℕ) (r : Reading) → TemperatureKeeps c (withZone c zone r) zone
-unfolding withZone
+temperature-set : (c : Chip) (zone : ℕ) (r : Reading) → TemperatureKeeps c (readZone c zone r) zone
+unfolding readZone withZone zoneAt
 temperature-set c zone r =
-    record { setup = refl; registers = refl; zones = λ i n. zone-other c zone i r n; volts = refl; erring = refl; fans = refl; kept = refl; hot = refl; pin = refl; drive = refl }
+    record { setup = refl; registers = zone-file-marks (c .registers) zone r; zones = λ i n. zone-other c zone i r n; volts = refl; erring = refl; fans = refl; kept = refl; hot = refl; pin = refl; drive = refl }
 
 pub temperature-keeps : (c : Chip) (zone : ℕ) (r : Reading) → TemperatureKeeps c (tookTemperature c zone r) zone
 unfolding tookTemperature
 temperature-keeps c zone r =
     pick-each (λ (d : Chip). TemperatureKeeps c d zone) (zoneHeard (registerAt c TEMPERATURE-SOURCE-SELECT) zone) (temperature-set c zone r) (temperature-same c zone)
 
--- ---- V: one voltage, whether its channel is in error, its error bits, and zone 3 or 4
+-- ---- V: one voltage, whether its channel is in error, its error bits, and zone 3 or 4 with its error bits
 
 -- the registers but for marks, zones 1a to 2b, every other channel, and the other parts
 pub record VoltageKeeps (c d : Chip) (channel : ℕ) : Type 0 where
@@ -93,11 +93,11 @@ voltage-set c channel n l = record {
 }
 
 -- a zone past the first four as well
-voltage-feeds : (c d : Chip) (channel zone : ℕ) (r : Reading) → 4 ≤ zone → VoltageKeeps c d channel → VoltageKeeps c (withZone d zone r) channel
-unfolding withZone voltAt inError
+voltage-feeds : (c d : Chip) (channel zone : ℕ) (r : Reading) → 4 ≤ zone → VoltageKeeps c d channel → VoltageKeeps c (readZone d zone r) channel
+unfolding readZone withZone zoneAt voltAt inError
 voltage-feeds c d channel zone r p k = record {
   setup = k .setup;
-  registers = k .registers;
+  registers = marks-then (k .registers) (zone-file-marks (d .registers) zone r);
   zones = λ i l. zone-other d zone i r (λ e. omega arith) ∙ k .zones i l;
   volts = k .volts;
   erring = k .erring;

@@ -1,12 +1,15 @@
 pub mod Errors
 pub mod Hysteresis
+pub mod ZoneLimits
 pub mod Missing
 pub mod Standing
 pub mod Ones
 pub mod IsSet
 pub mod Marks
+pub mod ButZones
 pub mod InError
 pub mod Alerts
+pub mod MaskedBits
 pub mod Keeps
 pub mod Events
 pub mod Cases

@@ -10,22 +10,27 @@ use lib.Bits.{bitOr}
 use lib.Dec.{T, ltb}
 use lib.ListN.{length, getD, length-set}
 use lib.Seq.{getD-set-same, getD-set-other}
-use Rattle.laws.specs.Pick.{pick}
+use Rattle.laws.specs.Pick.{pick, both}
 use Rattle.laws.specs.Store.{set-cases}
 use Rattle.map.specs.Bits.{isSet}
-use Rattle.map.specs.Names.{B-ERROR-STATUS-2, B-FAN-ERROR-STATUS, H-ERROR-STATUS-2, H-FAN-ERROR-STATUS}
+use Rattle.map.specs.Names.{B-ERROR-STATUS-1, B-ERROR-STATUS-2, B-FAN-ERROR-STATUS, H-ERROR-STATUS-1, H-ERROR-STATUS-2, H-FAN-ERROR-STATUS}
+use Rattle.masks.specs.Masks.{voltMasked, fanMasked, zoneMasked}
+use Rattle.temperature.specs.declared.Reading.{Reading}
+use Rattle.temperature.specs.declared.Reading.the-variants as reading
+use Rattle.state.specs.declared.Zone.{Zone}
 use Rattle.state.specs.declared.Gauge.{Gauge}
 use Rattle.state.specs.declared.Count.{Count}
 use Rattle.state.specs.declared.Count.the-variants.{Taken, Missing}
-use Rattle.state.specs.Parts.{noGauge}
-use Rattle.sense.specs.Errors.{withBit, markedVolt, markedFan, lowLimit, highLimit, fanLimitAt, comparedFan}
+use Rattle.state.specs.Parts.{noZone, noGauge}
+use Rattle.sense.specs.Errors.{withBit, marked, markedVolt, markedFan, lowLimit, highLimit, fanLimitAt, comparedFan}
 use Rattle.sense.specs.Hysteresis.{erringAfter, erredVolt}
-use Rattle.sense.specs.Missing.{voltWatched, fanWatched, missedVolt, missedFan, missedVolts, missedFans}
+use Rattle.sense.specs.ZoneLimits.{zoneNumber, lowTemp, highTemp, zoneWatched, isBeyond, markedZone, comparedZone, zoneFile}
+use Rattle.sense.specs.Missing.{voltWatched, fanWatched, missedVolt, missedFan, missedZone, missedVolts, missedFans, missedZones}
 use Rattle.sense.specs.IsSet.{set-new, set-stays}
 
--- an error status register: 41h to 4Fh
+-- an error status register: 40h to 4Fh
 pub record Status (a : ℕ) : Type 0 where
-  pub low : B-ERROR-STATUS-2 ≤ a
+  pub low : B-ERROR-STATUS-1 ≤ a
   pub high : a ≤ H-FAN-ERROR-STATUS
 
 -- what marks leave of the file: its length, every other register, and each bit that stands
@@ -73,25 +78,28 @@ bit-stands : (file : List ℕ) (s bit : ℕ) → s < length file → T (isSet (g
 unfolding withBit
 bit-stands file s bit l = rw (getD-set-same file s (bitOr (getD file s 0) bit) 0 l) (set-new (getD file s 0) bit)
 
--- ---- the error bit of a voltage or a fan, in both groups
+-- ---- the error bit of a voltage, a fan or a zone, in both groups
 
 -- the bit stands in the BMC group's register b and the Host group's register h
 pub record Stands (file : List ℕ) (b h bit : ℕ) : Type 0 where
   pub bmc : T (isSet (getD file b 0) bit)
   pub host : T (isSet (getD file h 0) bit)
 
--- the error bit of voltage i stands, that of fan i
+-- the error bit of voltage i stands, that of fan i, that of zone i
 abbrev pub VoltStands : List ℕ → ℕ → Type 0
 VoltStands file i = Stands file (B-ERROR-STATUS-2 + i / 8) (H-ERROR-STATUS-2 + i / 8) (2 ^ (i % 8))
 
 abbrev pub FanStands : List ℕ → ℕ → Type 0
 FanStands file i = Stands file B-FAN-ERROR-STATUS H-FAN-ERROR-STATUS (2 ^ i)
 
+abbrev pub ZoneStands : List ℕ → ℕ → Type 0
+ZoneStands file i = Stands file B-ERROR-STATUS-1 H-ERROR-STATUS-1 (2 ^ zoneNumber i)
+
 -- it stays under marks
 pub stands-stay : {file next : List ℕ} {b h bit : ℕ} → Marks file next → Stands file b h bit → Stands next b h bit
 stands-stay {b = b} {h = h} {bit = bit} m s = record { bmc = m .stays b bit (s .bmc); host = m .stays h bit (s .host) }
 
--- the bit is set in both registers
+-- the bit is set in both registers, unless it is masked
 module _ (file : List ℕ) (b h bit : ℕ) (p : Status b) (q : Status h) where
   abbrev first : List ℕ
   first = withBit file b bit
@@ -99,25 +107,28 @@ module _ (file : List ℕ) (b h bit : ℕ) (p : Status b) (q : Status h) where
   first-marks : Marks file first
   first-marks = bit-marks file b bit p
 
-  both-mark : Marks file (withBit first h bit)
-  both-mark = marks-then first-marks (bit-marks first h bit q)
+  marked-marks : (masked : Bool) → Marks file (marked masked file b h bit)
+  unfolding marked
+  marked-marks true = marks-none file
+  marked-marks false = marks-then first-marks (bit-marks first h bit q)
 
-  both-stand : length file ≡ 256 → Stands (withBit first h bit) b h bit
-  both-stand n = record {
+  marked-stands : (masked : Bool) → masked ≡ false → length file ≡ 256 → Stands (marked masked file b h bit) b h bit
+  unfolding marked
+  marked-stands masked e n = rw e (record {
     bmc = bit-stays first h bit b bit (bit-stands file b bit (omega arith));
     host = bit-stands first h bit (omega (arith, first-marks .long));
-  }
+  })
 
 module _ (file : List ℕ) (i : ℕ) (l : i < 16) where
   -- the error bit of a voltage marks
   pub volt-marks : Marks file (markedVolt file i)
   unfolding markedVolt
-  volt-marks = both-mark file (B-ERROR-STATUS-2 + i / 8) (H-ERROR-STATUS-2 + i / 8) (2 ^ (i % 8)) (omega arith) (omega arith)
+  volt-marks = marked-marks file (B-ERROR-STATUS-2 + i / 8) (H-ERROR-STATUS-2 + i / 8) (2 ^ (i % 8)) (omega arith) (omega arith) (voltMasked file i)
 
   -- a mark sets the voltage's bit in both groups
-  pub volt-stands : length file ≡ 256 → VoltStands (markedVolt file i) i
+  pub volt-stands : voltMasked file i ≡ false → length file ≡ 256 → VoltStands (markedVolt file i) i
   unfolding markedVolt
-  volt-stands = both-stand file (B-ERROR-STATUS-2 + i / 8) (H-ERROR-STATUS-2 + i / 8) (2 ^ (i % 8)) (omega arith) (omega arith)
+  volt-stands = marked-stands file (B-ERROR-STATUS-2 + i / 8) (H-ERROR-STATUS-2 + i / 8) (2 ^ (i % 8)) (omega arith) (omega arith) (voltMasked file i)
 
   -- so does a reading that is compared, and one that a tick finds missing
   pub erred-volt-marks : (before : Bool) (n : Count) → Marks file (erredVolt file i before n)
@@ -134,12 +145,12 @@ module _ (file : List ℕ) (i : ℕ) where
   -- the error bit of a fan marks
   pub fan-marks : Marks file (markedFan file i)
   unfolding markedFan
-  fan-marks = both-mark file B-FAN-ERROR-STATUS H-FAN-ERROR-STATUS (2 ^ i) (omega arith) (omega arith)
+  fan-marks = marked-marks file B-FAN-ERROR-STATUS H-FAN-ERROR-STATUS (2 ^ i) (omega arith) (omega arith) (fanMasked file i)
 
   -- a mark sets the fan's bit in both groups
-  pub fan-stands : length file ≡ 256 → FanStands (markedFan file i) i
+  pub fan-stands : fanMasked file i ≡ false → length file ≡ 256 → FanStands (markedFan file i) i
   unfolding markedFan
-  fan-stands = both-stand file B-FAN-ERROR-STATUS H-FAN-ERROR-STATUS (2 ^ i) (omega arith) (omega arith)
+  fan-stands = marked-stands file B-FAN-ERROR-STATUS H-FAN-ERROR-STATUS (2 ^ i) (omega arith) (omega arith) (fanMasked file i)
 
   -- so does a count that is compared, and one that a tick finds missing
   pub compared-fan-marks : (n : Count) → Marks file (comparedFan file i n)
@@ -152,6 +163,32 @@ module _ (file : List ℕ) (i : ℕ) where
   missed-fan-marks Missing = marks-if (fanWatched (fanLimitAt file i)) fan-marks
   missed-fan-marks (Taken n) = marks-none file
 
+module _ (file : List ℕ) (i : ℕ) where
+  -- the error bit of a zone marks
+  zone-marks : Marks file (markedZone file i)
+  unfolding markedZone
+  zone-marks = marked-marks file B-ERROR-STATUS-1 H-ERROR-STATUS-1 (2 ^ zoneNumber i) (omega arith) (omega arith) (zoneMasked file (zoneNumber i))
+
+  -- a mark sets the zone's bit in both groups
+  pub zone-stands : zoneMasked file (zoneNumber i) ≡ false → length file ≡ 256 → ZoneStands (markedZone file i) i
+  unfolding markedZone
+  zone-stands = marked-stands file B-ERROR-STATUS-1 H-ERROR-STATUS-1 (2 ^ zoneNumber i) (omega arith) (omega arith) (zoneMasked file (zoneNumber i))
+
+  -- so does a reading that is compared, and one that a tick finds missing
+  compared-zone-marks : (r : Reading) → Marks file (comparedZone file i r)
+  unfolding comparedZone
+  compared-zone-marks reading.Missing = marks-none file
+  compared-zone-marks (reading.Taken n) = marks-if (both (zoneWatched file i) (isBeyond (lowTemp file i) (highTemp file i) n)) zone-marks
+
+  pub zone-file-marks : (r : Reading) → Marks file (zoneFile file i r)
+  unfolding zoneFile
+  zone-file-marks r = marks-if (ltb i 6) (compared-zone-marks r)
+
+  pub missed-zone-marks : (r : Reading) → Marks file (missedZone file i r)
+  unfolding missedZone
+  missed-zone-marks reading.Missing = marks-if (zoneWatched file i) zone-marks
+  missed-zone-marks (reading.Taken n) = marks-none file
+
 -- ---- one after another
 
 -- `all n` is the file after n steps, each of which marks
@@ -159,7 +196,7 @@ module _ (step : List ℕ → ℕ → List ℕ) (top : ℕ) (marks : (file : Lis
   run-marks : (n m : ℕ) → n ≤ m → m ≤ top → Marks (all n) (all m)
   run-marks n m l = le-ind (λ (k : ℕ). k ≤ top → Marks (all n) (all k)) (λ q. marks-none (all n)) (λ k p ih q. rw (more k) (marks-then (ih (omega arith)) (marks (all k) k (omega arith)))) m l
 
--- the marks of a tick, from the first n channels or fans to the first m
+-- the marks of a tick, from the first n channels, fans or zones to the first m
 module _ (file : List ℕ) (gauges : List Gauge) where
   pub missed-volts-marks : (n m : ℕ) → n ≤ m → m ≤ 16 → Marks (missedVolts file gauges n) (missedVolts file gauges m)
   unfolding missedVolts
@@ -168,3 +205,7 @@ module _ (file : List ℕ) (gauges : List Gauge) where
   pub missed-fans-marks : (n m : ℕ) → n ≤ m → m ≤ 4 → Marks (missedFans file gauges n) (missedFans file gauges m)
   unfolding missedFans
   missed-fans-marks = run-marks (λ f i. missedFan f i (getD gauges i noGauge .count)) 4 (λ f i l. missed-fan-marks f i (getD gauges i noGauge .count)) (missedFans file gauges) (λ i. refl)
+
+pub missed-zones-marks : (file : List ℕ) (zones : List Zone) (n m : ℕ) → n ≤ m → m ≤ 6 → Marks (missedZones file zones n) (missedZones file zones m)
+unfolding missedZones
+missed-zones-marks file zones = run-marks (λ f i. missedZone f i (getD zones i noZone .reading)) 6 (λ f i l. missed-zone-marks f i (getD zones i noZone .reading)) (missedZones file zones) (λ i. refl)

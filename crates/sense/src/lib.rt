@@ -1,19 +1,30 @@
-// How readings come in, and the errors they raise (document 01, "Events" and "Errors and ALERT"; document 02, Q-2).
+// How readings come in, and the errors they raise (document 01, "Events" and "Errors and ALERT"; document 02, Q-2 and Q-12).
 ghost use mathlib.Core.Path.{_≡_};
-ghost use Prim.Native.Nat.{_+_, _<_, _^_};
-ghost use Rattle.sense.specs.Errors.{withBit, markedVolt, markedFan, isOutside, fanLimit, comparedFan, fanFile};
+ghost use Prim.Native.Nat.{_+_, _-_, _<_, _^_};
+ghost use lib.Bits.{bitAnd};
+ghost use Rattle.laws.specs.Binary.{hasDigit};
+ghost use Rattle.laws.specs.Count.{countTo};
+ghost use Rattle.map.specs.Bits.{isSet};
+ghost use Rattle.sense.specs.Errors.{withBit, marked, markedVolt, markedFan, isOutside, fanLimit, comparedFan, fanFile};
 ghost use Rattle.sense.specs.Hysteresis.{hysteresisOf, lowMove, highMove, endsError, erringOn, erringAfter, erredVolt, voltageFile, voltageErring};
-ghost use Rattle.sense.specs.Missing.{voltWatched, fanWatched, missedVolt, missedFan, missedVolts, missedFans, missedFile};
-ghost use Rattle.sense.specs.Standing.{bitsOf, errorsStanding, alertActive};
+ghost use Rattle.sense.specs.ZoneLimits.{zoneNumber, lowTemp, highTemp, tempsWatched, zoneWatched, isBeyond, markedZone, comparedZone, zoneFile};
+ghost use Rattle.sense.specs.Missing.{voltWatched, fanWatched, missedVolt, missedFan, missedZone, missedVolts, missedFans, missedZones, missedFile};
+ghost use Rattle.sense.specs.Standing.{errorsStanding, alertActive};
 ghost use Rattle.sense.specs.Events.{zoneThreeFed, zoneHeard, voltReading, feedsThree, feedsFour, resetFile};
 use map::bits;
 use map::registers;
 use state::Count;
 use state::Gauge;
+use state::Zone;
 use temperature::Reading;
 
 // A fan limit, or a fan count, that nothing exceeds.
 const FAN_TOP: u16 = 0x3FFF;
+
+// The limits of a zone that is not watched.
+const LOW_TEMP_UNWATCHED: u8 = 0x80;
+
+const HIGH_TEMP_UNWATCHED: u8 = 0x7F;
 
 // ---- error bits
 
@@ -33,24 +44,75 @@ fn set_bit(file: &mut [u8; 256], address: u8, bit: u8)
     file[at] = file[at] | bit;
 }
 
-// The error bit of a voltage, in the BMC and the Host group. Channels count from 0.
+// An error bit is set in a register of the BMC group and one of the Host group, unless it is among those that are masked.
+fn mark(file: &mut [u8; 256], masks: u8, bmc: u8, host: u8, bit: u8)
+    ensures { λ _. ⌜ now (file .exit) ≡ marked (isSet masks bit) (now (file .entry)) bmc host bit ⌝ }
+{
+    if map::is_set(masks, bit) {
+        return;
+    }
+    set_bit(file, bmc, bit);
+    set_bit(file, host, bit);
+}
+
+// The error bit of a voltage. Channels count from 0.
 fn mark_volt(file: &mut [u8; 256], channel: u8)
     requires { ⌜ channel < 16 ⌝ }
     ensures { λ _. ⌜ now (file .exit) ≡ markedVolt (now (file .entry)) channel ⌝ }
 {
+    let group = channel / 8;
+    let masks = masks::volt_masks(file, group);
     let bit = bit_at(channel % 8);
-    set_bit(file, registers::B_ERROR_STATUS_2 + channel / 8, bit);
-    set_bit(file, registers::H_ERROR_STATUS_2 + channel / 8, bit);
+    mark(
+        file,
+        masks,
+        registers::B_ERROR_STATUS_2 + group,
+        registers::H_ERROR_STATUS_2 + group,
+        bit,
+    );
 }
 
-// The error bit of a fan, in the BMC and the Host group. Fans count from 0.
+// The error bit of a fan. Fans count from 0.
 fn mark_fan(file: &mut [u8; 256], fan: u8)
     requires { ⌜ fan < 4 ⌝ }
     ensures { λ _. ⌜ now (file .exit) ≡ markedFan (now (file .entry)) fan ⌝ }
 {
+    let masks = masks::fan_masks(file);
     let bit = bit_at(fan);
-    set_bit(file, registers::B_FAN_ERROR_STATUS, bit);
-    set_bit(file, registers::H_FAN_ERROR_STATUS, bit);
+    mark(
+        file,
+        masks,
+        registers::B_FAN_ERROR_STATUS,
+        registers::H_FAN_ERROR_STATUS,
+        bit,
+    );
+}
+
+// Of zones 1a, 1b, 2a, 2b, 3, 4, counted from 0, that of zones 1 to 4 whose limits and error bit they have, counted from 0.
+fn zone_number(zone: u8) -> u8
+    requires { ⌜ zone < 6 ⌝ }
+    ensures { λ r. ⌜ (r ≡ zoneNumber zone) × (r < 4) ⌝ }
+{
+    if zone < 4 {
+        return zone / 2;
+    }
+    zone - 2
+}
+
+// The error bit of a zone.
+fn mark_zone(file: &mut [u8; 256], zone: u8)
+    requires { ⌜ zone < 6 ⌝ }
+    ensures { λ _. ⌜ now (file .exit) ≡ markedZone (now (file .entry)) zone ⌝ }
+{
+    let masks = masks::zone_masks(file);
+    let bit = bit_at(zone_number(zone));
+    mark(
+        file,
+        masks,
+        registers::B_ERROR_STATUS_1,
+        registers::H_ERROR_STATUS_1,
+        bit,
+    );
 }
 
 // VH, the voltage hysteresis.
@@ -173,6 +235,78 @@ pub fn compare_count(file: &mut [u8; 256], fan: u8, count: Count)
     }
 }
 
+// ---- zone limits
+
+// Whether limits are others than those of a zone that is not watched.
+fn temps_watched(low: u8, high: u8) -> bool
+    ensures { λ r. ⌜ r ≡ tempsWatched low high ⌝ }
+{
+    if low == LOW_TEMP_UNWATCHED {
+        return high != HIGH_TEMP_UNWATCHED;
+    }
+    true
+}
+
+// The limits of a zone, whole degrees.
+fn low_temp(file: &[u8; 256], zone: u8) -> u8
+    requires { ⌜ zone < 6 ⌝ }
+    ensures { λ r. ⌜ r ≡ lowTemp (now (file .entry)) zone ⌝ }
+{
+    file[registers::ZONE_1_LOW_TEMP as usize + 2 * (zone_number(zone) as usize)]
+}
+
+fn high_temp(file: &[u8; 256], zone: u8) -> u8
+    requires { ⌜ zone < 6 ⌝ }
+    ensures { λ r. ⌜ r ≡ highTemp (now (file .entry)) zone ⌝ }
+{
+    file[registers::ZONE_1_LOW_TEMP as usize + 2 * (zone_number(zone) as usize) + 1]
+}
+
+// Whether a zone is watched, by its limits and 31h.
+fn zone_watched(file: &[u8; 256], zone: u8) -> bool
+    requires { ⌜ zone < 6 ⌝ }
+    ensures { λ r. ⌜ r ≡ zoneWatched (now (file .entry)) zone ⌝ }
+{
+    if temps_watched(low_temp(file, zone), high_temp(file, zone)) {
+        return state::zone_enabled(file[registers::TEMPERATURE_SOURCE_SELECT as usize], zone);
+    }
+    false
+}
+
+// Whether a reading is below a low limit or above a high one, in degrees.
+fn is_beyond(low: u8, high: u8, n: i16) -> bool
+    ensures { λ r. ⌜ r ≡ isBeyond low high n ⌝ }
+{
+    if n < temperature::from_degrees(low) {
+        return true;
+    }
+    temperature::from_degrees(high) < n
+}
+
+// A taken reading of a watched zone beyond its limits sets its bit.
+fn mark_if_beyond(file: &mut [u8; 256], zone: u8, reading: Reading)
+    requires { ⌜ zone < 6 ⌝ }
+    ensures { λ _. ⌜ now (file .exit) ≡ comparedZone (now (file .entry)) zone reading ⌝ }
+{
+    let Reading::Taken(n) = reading else {
+        return;
+    };
+    if zone_watched(file, zone) {
+        if is_beyond(low_temp(file, zone), high_temp(file, zone), n) {
+            mark_zone(file, zone);
+        }
+    }
+}
+
+// A zone's reading is compared with its limits, and can set its error bit. Zones count from 0; there are six.
+pub fn compare_zone(file: &mut [u8; 256], zone: u8, reading: Reading)
+    ensures { λ _. ⌜ now (file .exit) ≡ zoneFile (now (file .entry)) zone reading ⌝ }
+{
+    if zone < 6 {
+        mark_if_beyond(file, zone, reading);
+    }
+}
+
 // ---- the missing marks of a tick
 
 fn volt_watched(low: u8, high: u8) -> bool
@@ -222,6 +356,19 @@ fn miss_fan(file: &mut [u8; 256], fan: u8, count: Count)
     }
 }
 
+// A zone that is watched and missing sets its bit.
+fn miss_zone(file: &mut [u8; 256], zone: u8, reading: Reading)
+    requires { ⌜ zone < 6 ⌝ }
+    ensures { λ _. ⌜ now (file .exit) ≡ missedZone (now (file .entry)) zone reading ⌝ }
+{
+    let Reading::Missing = reading else {
+        return;
+    };
+    if zone_watched(file, zone) {
+        mark_zone(file, zone);
+    }
+}
+
 fn miss_volts(file: &mut [u8; 256], volts: [Gauge; 16])
     ensures { λ _. ⌜ now (file .exit) ≡ missedVolts (now (file .entry)) volts 16 ⌝ }
 {
@@ -246,32 +393,65 @@ fn miss_fans(file: &mut [u8; 256], fans: [Gauge; 4])
     }
 }
 
+fn miss_zones(file: &mut [u8; 256], zones: [Zone; 6])
+    ensures { λ _. ⌜ now (file .exit) ≡ missedZones (now (file .entry)) zones 6 ⌝ }
+{
+    let mut i: u8 = 0;
+    while i < 6 {
+        let z = zones[i as usize];
+        let reading = z.reading;
+        miss_zone(file, i, reading);
+        i += 1;
+    }
+}
+
 // At a tick every watched reading that is still missing sets its bit.
-pub fn mark_missing(file: &mut [u8; 256], volts: [Gauge; 16], fans: [Gauge; 4])
-    ensures { λ _. ⌜ now (file .exit) ≡ missedFile (now (file .entry)) volts fans ⌝ }
+pub fn mark_missing(file: &mut [u8; 256], zones: [Zone; 6], volts: [Gauge; 16], fans: [Gauge; 4])
+    ensures { λ _. ⌜ now (file .exit) ≡ missedFile (now (file .entry)) zones volts fans ⌝ }
 {
     miss_volts(file, volts);
     miss_fans(file, fans);
+    miss_zones(file, zones);
 }
 
 // ---- errors standing, and ALERT
 
-// How many ones stand in two bytes and the low half of a third.
-fn ones_in(first: u8, second: u8, fans: u8) -> u32
-    ensures { λ r. ⌜ r ≡ bitsOf 8 first + bitsOf 8 second + bitsOf 4 fans ⌝ }
+// How many ones stand in two bytes and the low halves of two more.
+fn ones_in(first: u8, second: u8, fans: u8, zones: u8) -> u32
+    ensures { λ r. ⌜ r ≡ countTo (hasDigit first) 8 + countTo (hasDigit second) 8 + countTo (hasDigit fans) 4 + countTo (hasDigit zones) 4 ⌝ }
 {
-    u32::count_ones((((fans % 16) as u32) * 256 + second as u32) * 256 + first as u32)
+    let halves = zones % 16 * 16 + fans % 16;
+    u32::count_ones(((halves as u32) * 256 + second as u32) * 256 + first as u32)
 }
 
-// The number of voltage and fan errors that stand in the BMC group, 0 to 20.
+// What is left of a byte without the bits that are masked.
+fn unmasked(byte: u8, masks: u8) -> u8
+    ensures { λ r. ⌜ r ≡ bitAnd byte (255 - masks) ⌝ }
+{
+    byte & !masks
+}
+
+// The number of zone, voltage and fan errors that stand in the BMC group and are not masked, 0 to 24.
 pub fn errors_standing(file: &[u8; 256]) -> u32
     ensures { λ r. ⌜ r ≡ errorsStanding (now (file .entry)) ⌝ }
 {
-    ones_in(
+    let first = unmasked(
         file[registers::B_ERROR_STATUS_2 as usize],
+        masks::volt_masks(file, 0),
+    );
+    let second = unmasked(
         file[registers::B_ERROR_STATUS_3 as usize],
+        masks::volt_masks(file, 1),
+    );
+    let fans = unmasked(
         file[registers::B_FAN_ERROR_STATUS as usize],
-    )
+        masks::fan_masks(file),
+    );
+    let zones = unmasked(
+        file[registers::B_ERROR_STATUS_1 as usize],
+        masks::zone_masks(file),
+    );
+    ones_in(first, second, fans, zones)
 }
 
 // Whether ALERT is active.

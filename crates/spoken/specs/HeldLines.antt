@@ -1,18 +1,17 @@
 -- Document 02, Q-2, "Voltage hysteresis as the chip has it", said of lines of text, an S line too, and of what they print. Channels count
 -- from 0 here, and from 1 in V lines. Assumes nothing.
 use mathlib.Core.Path.{_≡_, refl, ap, _∙_}
-use mathlib.Core.Bool.{true}
+use mathlib.Core.Bool.{true, false}
 use mathlib.Core.List.{List, [], _∷_}
 use Prim.Native.Nat.{ℕ, suc, _+_, _/_, _%_, _^_}
 use Rattle.map.specs.Names.{B-ERROR-STATUS-2, H-ERROR-STATUS-2}
-use Rattle.state.specs.declared.Chip.{Chip}
+use Rattle.masks.specs.Masks.{voltMasked}
 use Rattle.state.specs.declared.Count.the-variants.{Taken}
 use Rattle.state.specs.Parts.{inError}
 use Rattle.sense.specs.Errors.{lowLimit, highLimit, isOutside}
 use Rattle.sense.specs.Hysteresis.{hysteresisOf, endsError}
 use Rattle.event.specs.declared.Event.the-variants.{Voltage}
 use Rattle.event.specs.Lasting.{Sized, step-sized}
-use Rattle.event.specs.Reached.{reached-sized}
 use Rattle.parse.specs.Parse.{dataOf}
 use Rattle.line.specs.declared.Session.{Session}
 use Rattle.line.specs.declared.Asked.{Asked}
@@ -22,7 +21,7 @@ use Rattle.line.specs.Comes.{asks-taken}
 use Rattle.line.specs.Session.{sessionAfter}
 use Rattle.theorems.specs.VoltReadings.{GivesCount, outside, Ends, within as event-within, started, held, reading-sets}
 use Rattle.spoken.specs.TakenLine.{givenBy}
-use Rattle.spoken.specs.SaidLines.{asks-no-setup, Reached, reach, lines-reach}
+use Rattle.spoken.specs.SaidLines.{asks-no-setup, lines-sized}
 use Rattle.spoken.specs.ReadLines.{PrintsBit, bit-printed}
 
 -- ---- what is said
@@ -76,11 +75,11 @@ module _ (i : ℕ) (s : Session) (l : List ℕ) where
   unfolding judgedLine
   line-held = asked-held (askedText (s .begun) l) refl
 
-  -- a V line that leaves the channel in error
-  set-printed : (n : ℕ) → CountLine i n s l → Sized (s .chip) → Erring i (judgedLine s l .session) → PrintsError i (judgedLine s l .session)
+  -- a V line that leaves the channel in error, where it is not masked
+  set-printed : (n : ℕ) → CountLine i n s l → Sized (s .chip) → voltMasked (s .chip .registers) i ≡ false → Erring i (judgedLine s l .session) → PrintsError i (judgedLine s l .session)
   unfolding judgedLine judgedBy eventLine begunLine
-  set-printed n a z u =
-      let shows = reading-sets i (s .chip) z (givenBy l (Voltage (suc i) (Taken n))) n (count-event i n s l a) (rw a at (u .erring)) in
+  set-printed n a z m u =
+      let shows = reading-sets i (s .chip) z (givenBy l (Voltage (suc i) (Taken n))) n (count-event i n s l a) m (rw a at (u .erring)) in
       rw a (record { bmc = bit-printed _ _ _ (shows .in-bmc .0); host = bit-printed _ _ _ (shows .in-host .0) })
 
 -- so do lines, one after the other
@@ -89,20 +88,18 @@ unfolding sessionAfter
 lines-held none u = u
 lines-held {i} {s} (more {l = l} n rest) u = lines-held rest (line-held i s l n u)
 
-reached-long : {c : Chip} → Reached c → Sized c
-reached-long (reach s gs) = reached-sized s gs
-
 -- From the bench's start, the S line included, after any lines: behind a V line outside its channel's limits, and any lines of which none
 -- ends the error, a V line of the channel that does not end it either sets its error bit in both groups, and R lines print it: "each taken
--- reading in between sets the bit again".
+-- reading in between sets the bit again". 02, Q-12: unless it is masked at that line; before it may have been masked or not.
 pub held-lines : (ls : List (List ℕ)) (i n m : ℕ) (first last : List ℕ) (between : List (List ℕ))
     → CountLine i n (sessionAfter startSession ls) first
     → isOutside (lowLimit (sessionAfter startSession ls .chip .registers) i) (highLimit (sessionAfter startSession ls .chip .registers) i) n ≡ true
     → NoneEndLines i (judgedLine (sessionAfter startSession ls) first .session) between
     → CountLine i m (sessionAfter (judgedLine (sessionAfter startSession ls) first .session) between) last
     → (EndsLine i (sessionAfter (judgedLine (sessionAfter startSession ls) first .session) between) last → ⊥)
+    → voltMasked (sessionAfter (judgedLine (sessionAfter startSession ls) first .session) between .chip .registers) i ≡ false
     → PrintsError i (judgedLine (sessionAfter (judgedLine (sessionAfter startSession ls) first .session) between) last .session)
-held-lines ls i n m first last between a o u b w =
+held-lines ls i n m first last between a o u b w k =
     let s = sessionAfter (judgedLine (sessionAfter startSession ls) first .session) between in
-    let before = lines-held u (line-starts i (sessionAfter startSession ls) first n (reached-long (lines-reach ls)) a o) in
-    set-printed i s last m b (before .sized) (line-held i s last w before)
+    let before = lines-held u (line-starts i (sessionAfter startSession ls) first n (lines-sized ls) a o) in
+    set-printed i s last m b (before .sized) k (line-held i s last w before)

@@ -7,6 +7,8 @@ use Rattle.state.specs.declared.Chip.{Chip}
 use Rattle.state.specs.declared.Setup.{Setup}
 use Rattle.state.specs.PowerOn.{defaultSetup, powerOn}
 use Rattle.event.specs.Run.{Given, chipAfter}
+use Rattle.event.specs.Lasting.{Sized}
+use Rattle.event.specs.Reached.{reached-sized}
 use Rattle.settings.specs.Settings.{settingsOf}
 use Rattle.line.specs.declared.Session.{Session}
 use Rattle.line.specs.declared.Asked.{Asked}
@@ -77,3 +79,10 @@ pub lines-reach : (ls : List (List ℕ)) → Reached (sessionAfter startSession 
 unfolding sessionAfter startSession judgedLine chipAfter
 lines-reach [] = reach defaultSetup []
 lines-reach (l ∷ ls) = asked-reached l _ ls (lines-reach ls)
+
+-- so its lists are as long as the chip has parts
+reached-long : {c : Chip} → Reached c → Sized c
+reached-long (reach s gs) = reached-sized s gs
+
+pub lines-sized : (ls : List (List ℕ)) → Sized (sessionAfter startSession ls .chip)
+lines-sized ls = reached-long (lines-reach ls)

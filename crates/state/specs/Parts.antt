@@ -1,8 +1,12 @@
 -- The parts of the chip that definitions read. Zones, channels, fans, inputs and tables count from 0. Past its end an array reads as
 -- missing, none, off or 0, so each definition has an answer for every number. Assumes nothing.
-use mathlib.Core.Bool.{Bool, false}
+use mathlib.Core.Bool.{Bool, true, false}
 use Prim.Native.Nat.{ℕ}
+use lib.Dec.{eqb}
 use lib.ListN.{getD}
+use Rattle.laws.specs.Pick.{pick}
+use Rattle.map.specs.Bits.{isSet}
+use Rattle.map.specs.Names.{Z1BE, Z2BE}
 use Rattle.temperature.specs.declared.Reading.{Reading}
 use Rattle.temperature.specs.declared.Reading.the-variants as reading
 use Rattle.state.specs.declared.Chip.{Chip}
@@ -44,6 +48,10 @@ registerAt c a = getD (c .registers) a 0
 -- the reading of zone i, in the order 1a, 1b, 2a, 2b, 3, 4
 unfoldable pub zoneAt : Chip → ℕ → Reading
 zoneAt c i = getD (c .zones) i noZone .reading
+
+-- "while Z1bE is set", "zone 2 likewise": whether zone i is enabled, by 31h; 1a, 2a, 3 and 4 always are
+unfoldable pub zoneEnabled : ℕ → ℕ → Bool
+zoneEnabled source i = pick (eqb i 1) (isSet source Z1BE) (pick (eqb i 3) (isSet source Z2BE) true)
 
 -- the reading of voltage channel i + 1
 unfoldable pub voltAt : Chip → ℕ → Count

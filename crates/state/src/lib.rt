@@ -1,12 +1,13 @@
 // The chip's state: what a setup holds, what the chip holds, and the chip at power-on.
 ghost use mathlib.Core.Path.{_≡_};
 ghost use lib.ListN.{getD, set};
-ghost use Rattle.state.specs.Parts.{noZone, noGauge, noKept};
+ghost use Rattle.state.specs.Parts.{noZone, noGauge, noKept, zoneEnabled};
 ghost use Rattle.map.specs.Tables.{defaults};
 ghost use Rattle.state.specs.PowerOn.{defaultSetup, powerOn, atRest};
 ghost use Rattle.state.specs.Most.{DUTY-MOST};
 ghost use Rattle.state.specs.Valid.{degreesIn, boostIn, overrideIn, basesIn, numbersIn, neverFall, boostsIn, overridesIn, tablesIn, fansIn, setupIn};
 ghost use Rattle.state.specs.Powered.{powered, poweredOn};
+use map::bits;
 use temperature::Reading;
 
 pub mod most;
@@ -429,6 +430,17 @@ pub fn zone_at(zones: [Zone; 6], zone: u8) -> Reading
         return z.reading;
     }
     Reading::Missing
+}
+
+// Whether a zone is enabled, by 31h: 1b and 2b can be disabled.
+pub fn zone_enabled(source: u8, zone: u8) -> bool
+    ensures { λ r. ⌜ r ≡ zoneEnabled source zone ⌝ }
+{
+    match zone {
+        1 => map::is_set(source, bits::Z1BE),
+        3 => map::is_set(source, bits::Z2BE),
+        _ => true,
+    }
 }
 
 // A voltage's reading; missing where there is no such channel.

@@ -1,14 +1,15 @@
 -- Degrees in sixteenths, with half a degree more or not, and a count of sixteenths rounded down to degrees. Assumes nothing.
 use mathlib.Core.Path.{_≡_, refl, ap}
 use mathlib.Core.Bool.{Bool, true, false}
-use Prim.Native.Nat.{ℕ, suc, _+_, _-_, _*_, _/_, _%_, _≤_}
+use Prim.Native.Nat.{ℕ, suc, _+_, _-_, _*_, _/_, _%_, _≤_, _<_}
 use native.Mathlib.Omega.{arith}
 use borrow.Author.Tests.{lt-ltb, eq-eqb, ne-eqb}
-use lib.Dec.{T, leb→le, le→leb}
-use lib.IntN.{ℤ, pos, negsuc, negℤ, _+ℤ_, _*ℤ_, +ℤ-idr}
+use lib.Dec.{T, ltb, leb→le, le→leb}
+use lib.IntN.{ℤ, pos, negsuc, negℤ, _+ℤ_, _-ℤ_, _*ℤ_, +ℤ-idr}
 use lib.Signed.{mag, leZ, shrZ}
+use Rattle.laws.specs.Magnitude.{mag-minus}
 use Rattle.laws.specs.Pick.{pick}
-use Rattle.temperature.specs.Temperature.{HALF, DEGREE, isOdd}
+use Rattle.temperature.specs.Temperature.{HALF, DEGREE, isOdd, degreesOf, sixteenthsOf}
 
 -- half a degree, or none
 abbrev pub halfOf : Bool → ℕ
@@ -35,6 +36,15 @@ part-mag (negsuc n) half = rw part-neg (omega arith)
 
 pub degrees-mag : (z : ℤ) → mag (z *ℤ pos DEGREE) ≤ mag z * DEGREE + (DEGREE - 1)
 degrees-mag z = rw (+ℤ-idr (z *ℤ pos DEGREE)) at (part-mag z false)
+
+-- a byte's degrees
+pub byte-mag : (byte : ℕ) → byte < 256 → mag (sixteenthsOf byte) < 16384
+unfolding degreesOf
+byte-mag byte b = go (ltb byte 0x80)
+  where
+    go : (t : Bool) → mag (pick t (pos byte) (pos byte -ℤ pos 256) *ℤ pos DEGREE) < 16384
+    go true = omega (arith, degrees-mag (pos byte))
+    go false = omega (arith, mag-minus (pos byte) 256, degrees-mag (pos byte -ℤ pos 256))
 
 -- rounded down, to degrees or to halves
 pub down-mag : (z : ℤ) (d : ℕ) → mag (shrZ z d) ≡ mag z / d

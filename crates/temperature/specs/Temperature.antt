@@ -58,9 +58,13 @@ halfSet (Taken n) = isOdd (shrZ n HALF)
 unfoldable pub degreesOf : ℕ → ℤ
 degreesOf byte = pick (ltb byte 0x80) (pos byte) (pos byte -ℤ pos 256)
 
+-- in sixteenths
+abbrev pub sixteenthsOf : ℕ → ℤ
+sixteenthsOf byte = degreesOf byte *ℤ pos DEGREE
+
 -- "a bus write of 80h makes the zone missing"; 02: "A bus write of the whole byte sets the fraction to 0"
 unfoldable pub readingOf : ℕ → Reading
-readingOf byte = pick (eqb byte 0x80) Missing (Taken (degreesOf byte *ℤ pos DEGREE))
+readingOf byte = pick (eqb byte 0x80) Missing (Taken (sixteenthsOf byte))
 
 -- "sets zone 3 to the count minus 128 degrees"; "A count of 0 makes that zone missing"
 unfoldable pub countReading : ℕ → Reading

@@ -1,6 +1,6 @@
 // A zone's temperature: how it is held, how an event states it, and how its two registers show it.
 ghost use mathlib.Core.Path.{_≡_};
-ghost use Rattle.temperature.specs.Temperature.{wholeOf, isOdd, wholeByte, halfSet, readingOf, countReading, withHalf, hotterOf};
+ghost use Rattle.temperature.specs.Temperature.{wholeOf, isOdd, wholeByte, halfSet, sixteenthsOf, readingOf, countReading, withHalf, hotterOf};
 ghost use Rattle.temperature.specs.Raised.{raised};
 
 // A signed count of sixteenths of a degree, or none.
@@ -69,6 +69,16 @@ pub fn half_set(reading: Reading) -> bool
     is_odd(n >> HALF_BITS)
 }
 
+// How many sixteenths a byte of signed degrees is.
+pub fn from_degrees(byte: u8) -> i16
+    ensures { λ r. ⌜ r ≡ sixteenthsOf byte ⌝ }
+{
+    if byte < 0x80 {
+        return byte as i16 * DEGREE;
+    }
+    (byte as i16 - 256) * DEGREE
+}
+
 // The reading that a whole-degree byte stands for, with no fraction.
 pub fn from_byte(byte: u8) -> Reading
     ensures { λ r. ⌜ r ≡ readingOf byte ⌝ }
@@ -76,10 +86,7 @@ pub fn from_byte(byte: u8) -> Reading
     if byte == MISSING {
         return Reading::Missing;
     }
-    if byte < 0x80 {
-        return Reading::Taken(byte as i16 * DEGREE);
-    }
-    Reading::Taken((byte as i16 - 256) * DEGREE)
+    Reading::Taken(from_degrees(byte))
 }
 
 // The reading that a voltage count stands for: the count minus 128 degrees. A count of 0 is missing.

@@ -1,4 +1,4 @@
--- Two chips, one no hotter than the other: they differ in zones and drive alone. Assumes nothing.
+-- Two chips, one no hotter than the other: they differ in zones, in the zones' error bits and in the drive alone. Assumes nothing.
 use mathlib.Core.Path.{_≡_, refl, sym, _∙_}
 use mathlib.Core.Bool.{Bool}
 use mathlib.Core.List.{List}
@@ -16,8 +16,9 @@ use Rattle.state.specs.declared.Gauge.{Gauge}
 use Rattle.state.specs.declared.FanKept.{FanKept}
 use Rattle.state.specs.declared.Pin.{Pin}
 use Rattle.state.specs.Parts.{noZone, zoneAt}
-use Rattle.state.specs.With.{withZones, withDrive}
-use Rattle.state.specs.Order.{DriveNoHigher, Cooler}
+use Rattle.state.specs.With.{withRegisters, withZones, withDrive}
+use Rattle.state.specs.Order.{DriveNoHigher, SameButZones, Cooler}
+use Rattle.sense.specs.ButZones.{but-self}
 
 -- ---- zones
 
@@ -45,13 +46,13 @@ pub record Under (c d : Chip) : Type 0 where
   pub cooler : Cooler c d
 
 -- chips with the same of all else
-pub same-but : {s : Setup} {r : List ℕ} {zs ws : List Zone} {v f : List Gauge} {k : List FanKept} {g h : List Bool} {p : Pin} {d e : Drive} → ZonesCooler zs ws → DriveNoHigher d e → Under (record { setup = s; registers = r; zones = zs; volts = v; erring = g; fans = f; kept = k; hot = h; pin = p; drive = d }) (record { setup = s; registers = r; zones = ws; volts = v; erring = g; fans = f; kept = k; hot = h; pin = p; drive = e })
+pub same-but : {s : Setup} {q r : List ℕ} {zs ws : List Zone} {v f : List Gauge} {k : List FanKept} {g h : List Bool} {p : Pin} {d e : Drive} → SameButZones q r → ZonesCooler zs ws → DriveNoHigher d e → Under (record { setup = s; registers = q; zones = zs; volts = v; erring = g; fans = f; kept = k; hot = h; pin = p; drive = d }) (record { setup = s; registers = r; zones = ws; volts = v; erring = g; fans = f; kept = k; hot = h; pin = p; drive = e })
 unfolding zoneAt
-same-but z n = record {
+same-but s z n = record {
   many = z .many;
   cooler = record {
     setup = refl;
-    registers = refl;
+    registers = s;
     zones = z .each;
     volts = refl;
     erring = refl;
@@ -66,17 +67,18 @@ same-but z n = record {
 -- a chip is no hotter than itself
 pub under-self : (c : Chip) → Under c c
 under-self c =
-    same-but (zones-self _) (record { steps = λ i. omega arith; boosts = λ i t. t; ramps = refl; duties = λ i. omega arith })
+    same-but (but-self _) (zones-self _) (record { steps = λ i. omega arith; boosts = λ i t. t; ramps = refl; duties = λ i. omega arith })
 
--- the chip c, but with other zones and another drive
-abbrev pub beside : Chip → List Zone → Drive → Chip
-beside c zs x = withDrive (withZones c zs) x
+-- the chip c, but with another register file, other zones and another drive
+abbrev pub beside : Chip → List ℕ → List Zone → Drive → Chip
+beside c file zs x = withDrive (withZones (withRegisters c file) zs) x
 
--- a chip that is no cooler than c is c, but with its own zones and drive
-is-beside : {c d : Chip} → Cooler c d → d ≡ beside c (d .zones) (d .drive)
-is-beside k = rw (k .setup, k .registers, k .volts, k .erring, k .fans, k .kept, k .hot, k .pin)
+-- a chip that is no cooler than c is c, but with its own register file, zones and drive
+is-beside : {c d : Chip} → Cooler c d → d ≡ beside c (d .registers) (d .zones) (d .drive)
+is-beside k = rw (k .setup, k .volts, k .erring, k .fans, k .kept, k .hot, k .pin)
 
 -- so what holds of every such chip beside c holds of one that c is under
-pub under-beside : {c d : Chip} (P : Chip → Type 0) → ((zs : List Zone) (x : Drive) → ZonesCooler (c .zones) zs → DriveNoHigher (c .drive) x → P (beside c zs x)) → Under c d → P d
+pub under-beside : {c d : Chip} (P : Chip → Type 0) → ((file : List ℕ) (zs : List Zone) (x : Drive) → SameButZones (c .registers) file → ZonesCooler (c .zones) zs → DriveNoHigher (c .drive) x → P (beside c file zs x)) → Under c d → P d
 unfolding zoneAt
-under-beside P f u = rw (is-beside (u .cooler)) (f _ _ (record { many = u .many; each = u .cooler .zones }) (u .cooler .drive))
+under-beside P f u =
+    rw (is-beside (u .cooler)) (f _ _ _ (u .cooler .registers) (record { many = u .many; each = u .cooler .zones }) (u .cooler .drive))

@@ -1,5 +1,6 @@
 -- No listed block has 31h or E3h in it, so no byte of a block write changes them. Assumes nothing.
 use mathlib.Core.Path.{_≡_, refl, sym}
+use mathlib.Core.Logic.{_≢_}
 use mathlib.Core.Bool.{Bool, true, false, not}
 use Prim.Native.Nat.{ℕ, _+_, _<_}
 use native.Mathlib.Omega.{arith}
@@ -9,13 +10,15 @@ use lib.Seq.{getD-set-other}
 use Rattle.laws.specs.Pick.{either}
 use Rattle.laws.specs.Table.{passes, entry}
 use Rattle.map.specs.declared.Block.the-variants.{Fixed}
-use Rattle.map.specs.Names.{TEMPERATURE-SOURCE-SELECT, CONFIGURATION}
+use Rattle.map.specs.Names.{TEMPERATURE-SOURCE-SELECT, B-ERROR-STATUS-1, H-ERROR-STATUS-1, CONFIGURATION}
 use Rattle.map.specs.Tables.{homes}
 use Rattle.map.specs.Map.{homeOf}
 use Rattle.map.specs.Blocks.{blockFirsts, blockCounts, blockOf, passesAll, block-test, block-within}
 use Rattle.state.specs.declared.Chip.{Chip}
 use Rattle.state.specs.Parts.{registerAt}
 use Rattle.state.specs.With.{withRegister, withZone}
+use Rattle.sense.specs.Events.{readZone}
+use Rattle.sense.specs.ButZones.{zone-file}
 use Rattle.bus.specs.declared.Change.{Change}
 use Rattle.bus.specs.Write.{stored, cleared, changeOf, changed, wroteRegister}
 use Rattle.bus.specs.Changes.{Allowed, none, store, clear, zone, change-allowed}
@@ -56,15 +59,15 @@ blocks-apart command listed k h = record {
   lock = no-place CONFIGURATION tt tt command listed k h;
 }
 
--- ---- a byte write leaves every register but its home
+-- ---- a byte write leaves every register but its home, and but 40h and 48h, which have the zones' error bits
 
-change-leaves : (c : Chip) {home byte : ℕ} {d : Change} → Allowed c home byte d → (a : ℕ) → (home ≡ a → ⊥) → registerAt (changed c d) a ≡ registerAt c a
-unfolding changed registerAt withRegister withZone stored cleared
-change-leaves c none a n = refl
-change-leaves c {home} (store f s) a n = getD-set-other (c .registers) home a _ 0 (λ e. n (sym e))
-change-leaves c {home} (clear f s) a n = getD-set-other (c .registers) home a _ 0 (λ e. n (sym e))
-change-leaves c (zone i r) a n = refl
+change-leaves : (c : Chip) {home byte : ℕ} {d : Change} → Allowed c home byte d → (a : ℕ) → a ≢ B-ERROR-STATUS-1 → a ≢ H-ERROR-STATUS-1 → (home ≡ a → ⊥) → registerAt (changed c d) a ≡ registerAt c a
+unfolding changed registerAt withRegister readZone withZone stored cleared
+change-leaves c none a p q n = refl
+change-leaves c {home} (store f s) a p q n = getD-set-other (c .registers) home a _ 0 (λ e. n (sym e))
+change-leaves c {home} (clear f s) a p q n = getD-set-other (c .registers) home a _ 0 (λ e. n (sym e))
+change-leaves c (zone i r) a p q n = sym (zone-file (c .registers) i r .each a p q)
 
-pub write-leaves : (c : Chip) (place byte a : ℕ) → (homeOf place ≡ a → ⊥) → registerAt (wroteRegister c place byte) a ≡ registerAt c a
+pub write-leaves : (c : Chip) (place byte a : ℕ) → a ≢ B-ERROR-STATUS-1 → a ≢ H-ERROR-STATUS-1 → (homeOf place ≡ a → ⊥) → registerAt (wroteRegister c place byte) a ≡ registerAt c a
 unfolding wroteRegister changeOf
-write-leaves c place byte a n = change-leaves c (change-allowed c (homeOf place) byte) a n
+write-leaves c place byte a p q n = change-leaves c (change-allowed c (homeOf place) byte) a p q n

@@ -16,7 +16,7 @@ use Rattle.state.specs.declared.Count.the-variants.{Taken, Missing}
 use Rattle.state.specs.Parts.{noGauge, voltAt, fanAt}
 use Rattle.state.specs.With.{withZone, withVolt, withInError, withFan}
 use Rattle.sense.specs.Missing.{missed}
-use Rattle.sense.specs.Events.{fedZone, fed-each, readVolt, tookVoltage, tookFan}
+use Rattle.sense.specs.Events.{readZone, fedZone, fed-each, readVolt, tookVoltage, tookFan}
 use Rattle.sense.specs.Keeps.{temperature-keeps, voltage-keeps, fan-keeps, hot-keeps, pin-keeps, reset-keeps, missed-keeps}
 use Rattle.laws.specs.Never.{never}
 use Rattle.bus.specs.Transactions.{write-keeps, read-keeps, read-block-keeps, write-block, after, afterAll, transactions-keep}
@@ -72,7 +72,7 @@ stays l i j n m own = set-cases (λ (g : Gauge). g .count ≡ Missing) l j i (re
 
 -- the zone that a voltage feeds is none of the voltages
 fed-volts : (c : Chip) (channel : ℕ) (n : Count) → fedZone c channel n .volts ≡ c .volts
-unfolding withZone
+unfolding readZone withZone
 fed-volts c channel n = fed-each (λ (d : Chip). d .volts ≡ c .volts) c channel n refl refl refl
 
 -- what an event gives reading i is missing, if the event gives it no taken one; events count from 1

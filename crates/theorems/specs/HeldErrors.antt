@@ -6,6 +6,7 @@ use mathlib.Core.List.{List, [], _∷_}
 use Prim.Native.Nat.{ℕ, _+_, _≤_, _<_}
 use Rattle.laws.specs.Never.{never}
 use Rattle.laws.specs.Pointwise.{replicate-each}
+use Rattle.masks.specs.Masks.{voltMasked}
 use Rattle.state.specs.declared.Chip.{Chip}
 use Rattle.state.specs.declared.Setup.{Setup}
 use Rattle.state.specs.declared.Count.the-variants.{Taken}
@@ -116,11 +117,11 @@ module _ (s : Setup) (gs : List Given) (i : ℕ) where
       go (one a) = a
       go (first h u) = let q = sym (power-sound s i) ∙ h in absurd (never (cc))
 
-  -- "and each taken reading in between sets the bit again"
-  pub sets-again : Started i (powerOn s) gs → (g : Given) (n : ℕ) → GivesCount i (Taken n) g → (Ends i (chipAfter (powerOn s) gs) g → ⊥) → ShowsError i (givenStep (chipAfter (powerOn s) gs) g .chip)
-  sets-again a g n r o =
+  -- "and each taken reading in between sets the bit again"; 02, Q-12: unless it is masked. What comes before may have been masked or not
+  pub sets-again : Started i (powerOn s) gs → (g : Given) (n : ℕ) → GivesCount i (Taken n) g → (Ends i (chipAfter (powerOn s) gs) g → ⊥) → voltMasked (chipAfter (powerOn s) gs .registers) i ≡ false → ShowsError i (givenStep (chipAfter (powerOn s) gs) g .chip)
+  sets-again a g n r o u =
       let z = reached-sized s gs in
-      reading-sets i _ z g n r (held i _ z g o (from-reading a))
+      reading-sets i _ z g n r u (held i _ z g o (from-reading a))
 
   -- under limits and VH of which no reading is within, it stays until they change
   pub held-while-bounded : inError (chipAfter (powerOn s) gs) i ≡ true → NeverEnds i (chipAfter (powerOn s) gs) → (hs : List Given) → BoundsStay i (chipAfter (powerOn s) gs) hs → inError (chipAfter (chipAfter (powerOn s) gs) hs) i ≡ true

@@ -39,7 +39,7 @@ module _ (c : Chip) (locked : T (isSet (registerAt c CONFIGURATION) LOCK)) where
   -- an event other than X
   taken-same : (e : Event) (bytes : List ℕ) → (e ≡ Reset → ⊥) → Same c (takenStep c e bytes .chip)
   unfolding takenStep quietStep tickAnswer writtenAnswer readAnswer seenBlockAnswer writtenBlockAnswer after afterAll
-  taken-same (Temperature zone s) bytes n = same-file _ (temperature-keeps c (zone - 1) _ .registers)
+  taken-same (Temperature zone s) bytes n = marks-same _ (temperature-keeps c (zone - 1) _ .registers)
   taken-same (Voltage channel k) bytes n = marks-same _ (voltage-keeps c (channel - 1) k .registers)
   taken-same (Fan fan k) bytes n = marks-same _ (fan-keeps c (fan - 1) k .registers)
   taken-same (Hot input level) bytes n = same-file _ (hot-keeps c (input - 1) _ .registers)

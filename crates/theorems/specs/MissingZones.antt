@@ -1,7 +1,7 @@
 -- A zone that is missing: what it shows, what it asks of the fans, and until when it is missing. Zones count from 0 in the order 1a, 1b, 2a,
 -- 2b, 3, 4, tables and fans from 0. Assumes nothing.
 use mathlib.Core.Path.{_≡_, refl}
-use mathlib.Core.List.{List, [], _∷_}
+use mathlib.Core.List.{List, []}
 use Prim.Native.Nat.{ℕ, zero, suc, _^_, _<_}
 use native.Mathlib.Omega.{arith}
 use lib.Dec.{T}
@@ -26,14 +26,14 @@ use Rattle.event.specs.declared.Event.the-variants.{Tick}
 use Rattle.event.specs.declared.Answer.the-variants.{Ticked}
 use Rattle.event.specs.declared.Tick.{Tick as Shown}
 use Rattle.event.specs.Event.{steppedChip}
-use Rattle.event.specs.Run.{Given, givenStep, chipAfter}
+use Rattle.event.specs.Run.{Given, chipAfter}
 use Rattle.event.specs.Ticking.{tickShown, tick-answers}
-use Rattle.theorems.specs.Taken.{IsTaken}
 use Rattle.theorems.specs.ShownBytes.{Shows}
-use Rattle.theorems.specs.Zones.{zoneOf, ZoneMissing, GivesZone}
+use Rattle.theorems.specs.Zones.{zoneOf, ZoneMissing}
+use Rattle.theorems.specs.Sensors.{zone, IsMissing}
+use Rattle.theorems.specs.Healthy.{NeverRead, unread-missing}
 use Rattle.theorems.specs.FollowedZones.{followed-tells}
 use Rattle.theorems.specs.BoundTables.{missing-duty}
-use Rattle.theorems.specs.ZoneReadings.{power-lost, step-lost}
 
 -- ---- what it shows
 
@@ -90,18 +90,8 @@ missing-full s v gs fan table f t bound off m =
 
 -- ---- until when it is missing
 
--- none of the events gives zone z a reading, from a chip on; one that is refused may say anything
-pub data NeverGiven (z : ℕ) : Chip → List Given → Type 0 where
-  none : {c : Chip} → NeverGiven z c []
-  more : {c : Chip} {g : Given} {gs : List Given} → (IsTaken g → GivesZone c z (g .event) (g .bytes) → ⊥) → NeverGiven z (givenStep c g .chip) gs → NeverGiven z c (g ∷ gs)
-
--- a missing zone stays so
-stays-missing : {z : ℕ} {c : Chip} {gs : List Given} → NeverGiven z c gs → zoneAt c z ≡ Missing → zoneAt (chipAfter c gs) z ≡ Missing
-unfolding chipAfter
-stays-missing none m = m
-stays-missing {z} {c} (more {g = g} n u) m = stays-missing u (step-lost c z m g n)
-
 -- From power-on a zone is missing until a T or U that is heard, a V above 0 that feeds it, a whole-byte write other than 80h that takes effect,
 -- or a block write one of whose bytes is such a write.
-pub missing-until : (s : Setup) (z : ℕ) (gs : List Given) → NeverGiven z (powerOn s) gs → zoneAt (chipAfter (powerOn s) gs) z ≡ Missing
-missing-until s z gs u = stays-missing u (power-lost s z)
+pub missing-until : (s : Setup) (z : ℕ) (l : z < 6) (gs : List Given) → NeverRead (zone z l) (powerOn s) gs → zoneAt (chipAfter (powerOn s) gs) z ≡ Missing
+unfolding IsMissing
+missing-until s z l gs u = unread-missing (zone z l) s gs u

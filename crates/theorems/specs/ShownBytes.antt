@@ -8,7 +8,7 @@ use lib.Dec.{T, leb, eqb, eqb→eq}
 use Rattle.laws.specs.Pick.{both, either}
 use Rattle.laws.specs.Table.{entry}
 use Rattle.map.specs.declared.Kind.the-variants as kind
-use Rattle.map.specs.Names.{B-ERROR-STATUS-2, H-FAN-ERROR-STATUS}
+use Rattle.map.specs.Names.{B-ERROR-STATUS-1, H-FAN-ERROR-STATUS}
 use Rattle.map.specs.Tables.{homes}
 use Rattle.map.specs.Map.{homeOf}
 use Rattle.map.specs.Bits.{isSet}
@@ -37,7 +37,7 @@ status-home : (a : ℕ) → Status a → homeOf a ≡ a
 unfolding homeOf homes
 status-home a s =
     eqb→eq (homeOf a) a
-    (rw (le-leb B-ERROR-STATUS-2 a (s .low), le-leb a H-FAN-ERROR-STATUS (s .high)) at (entry (λ k home. either (not (both (leb B-ERROR-STATUS-2 k) (leb k H-FAN-ERROR-STATUS))) (eqb home k)) homes tt a (omega arith)))
+    (rw (le-leb B-ERROR-STATUS-1 a (s .low), le-leb a H-FAN-ERROR-STATUS (s .high)) at (entry (λ k home. either (not (both (leb B-ERROR-STATUS-1 k) (leb k H-FAN-ERROR-STATUS))) (eqb home k)) homes tt a (omega arith)))
 
 -- and of the kind of 40h to 4Fh, which are rung 7
 pub status-kind : (a : ℕ) → Status a → kindOf a ≡ kind.Status

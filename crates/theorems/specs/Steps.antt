@@ -13,7 +13,7 @@ use Rattle.state.specs.declared.Chip.{Chip}
 use Rattle.state.specs.declared.Drive.{Drive}
 use Rattle.state.specs.declared.Zone.{Zone}
 use Rattle.state.specs.Valid.{Valid}
-use Rattle.state.specs.Order.{DriveNoHigher}
+use Rattle.state.specs.Order.{DriveNoHigher, SameButZones}
 use Rattle.sense.specs.Missing.{missed}
 use Rattle.bus.specs.Read.{Shown as Byte, NoByte as NoneShown, Byte as ByteShown}
 use Rattle.laws.specs.Never.{never}
@@ -81,11 +81,11 @@ not-refused-taken c g f = step-taken c (g .event) (g .bytes) (taken-number c (g 
 
 -- ---- the same event
 
-module _ (c : Chip) {zs : List Zone} {x : Drive} (v : Valid (c .setup)) (z : ZonesCooler (c .zones) zs) (n : DriveNoHigher (c .drive) x) where
+module _ (c : Chip) {file : List ℕ} {zs : List Zone} {x : Drive} (v : Valid (c .setup)) (b : SameButZones (c .registers) file) (z : ZonesCooler (c .zones) zs) (n : DriveNoHigher (c .drive) x) where
   abbrev d : Chip
-  d = beside c zs x
+  d = beside c file zs x
 
-  -- K: the missing marks are the same, and the tick goes by order
+  -- K: the missing marks are the same but for the zones', and the tick goes by order
   tick-rises : Rises (steppedChip c Tick []) (steppedChip d Tick [])
   unfolding tickShown
   tick-rises = record {
@@ -97,7 +97,7 @@ module _ (c : Chip) {zs : List Zone} {x : Drive} (v : Valid (c .setup)) (z : Zon
   }
     where
       u : Under (missed c) (missed d)
-      u = missed-under c z n
+      u = missed-under c b z n
 
       valid : Valid (missed c .setup)
       valid = rw (missed-shape c .setup) v
@@ -105,33 +105,33 @@ module _ (c : Chip) {zs : List Zone} {x : Drive} (v : Valid (c .setup)) (z : Zon
   -- each event, taken by both
   taken-rises : (e : Event) (bytes : List ℕ) → Rises (takenStep c e bytes) (takenStep d e bytes)
   unfolding steppedChip refusalOf eventIn takenStep writtenAnswer readAnswer seenBlockAnswer writtenBlockAnswer
-  taken-rises (Temperature zone s) bytes = quiet-rises (temperature-under c z n (zone - 1) (no-hotter-refl (statedReading s)))
-  taken-rises (Voltage channel count) bytes = quiet-rises (voltage-under c z n (channel - 1) count)
-  taken-rises (Fan fan count) bytes = quiet-rises (fan-under c z n (fan - 1) count)
-  taken-rises (Hot input level) bytes = quiet-rises (hot-under c z n (input - 1) _)
-  taken-rises (Pin level) bytes = quiet-rises (pin-under c z n _)
+  taken-rises (Temperature zone s) bytes = quiet-rises (temperature-under c b z n (zone - 1) (no-hotter-refl (statedReading s)))
+  taken-rises (Voltage channel count) bytes = quiet-rises (voltage-under c b z n (channel - 1) count)
+  taken-rises (Fan fan count) bytes = quiet-rises (fan-under c b z n (fan - 1) count)
+  taken-rises (Hot input level) bytes = quiet-rises (hot-under c b z n (input - 1) _)
+  taken-rises (Pin level) bytes = quiet-rises (pin-under c b z n _)
   taken-rises Tick bytes = tick-rises
-  taken-rises Reset bytes = quiet-rises (reset-under c z n)
-  taken-rises (Write address a byte) bytes = record { chips = write-under c z n address a byte; answers = others (acknowledged _) (acknowledged _) }
-  taken-rises (Read address a) bytes = record { chips = read-under c z n address a; answers = others (seen _) (seen _) }
-  taken-rises (ReadBlock address command) bytes = record { chips = read-block-under c z n address command; answers = others (block _) (block _) }
+  taken-rises Reset bytes = quiet-rises (reset-under c b z n)
+  taken-rises (Write address a byte) bytes = record { chips = write-under c b z n address a byte; answers = others (acknowledged _) (acknowledged _) }
+  taken-rises (Read address a) bytes = record { chips = read-under c b z n address a; answers = others (seen _) (seen _) }
+  taken-rises (ReadBlock address command) bytes = record { chips = read-block-under c b z n address command; answers = others (block _) (block _) }
   taken-rises (WriteBlock address command) bytes =
-      record { chips = write-block-under c z n address command bytes; answers = others (block-written _) (block-written _) }
+      record { chips = write-block-under c b z n address command bytes; answers = others (block-written _) (block-written _) }
 
   -- taken by both or refused by both
   same-rises : (g : Given) → Rises (givenStep c g) (givenStep d g)
   unfolding steppedChip
   same-rises g =
-      pick-related Rises (eqb (refusalOf (g .event) (g .bytes)) 0) (taken-rises (g .event) (g .bytes)) (refused-rises (refusalOf (g .event) (g .bytes)) (itself c z n))
+      pick-related Rises (eqb (refusalOf (g .event) (g .bytes)) 0) (taken-rises (g .event) (g .bytes)) (refused-rises (refusalOf (g .event) (g .bytes)) (itself c b z n))
 
   -- alike events: the same, or a T or U that is hotter for the second
   alike-rises : {g h : Given} → Alike g h → NotRefused c g → NotRefused d h → Rises (givenStep c g) (givenStep d h)
   unfolding takenStep
   alike-rises (same g) p q = same-rises g
   alike-rises (hotter zone bytes {r} {s} t) p q =
-      rw (not-refused-taken c _ p, not-refused-taken d _ q) (quiet-rises (temperature-under c z n (zone - 1) {r = statedReading r} {s = statedReading s} t))
+      rw (not-refused-taken c _ p, not-refused-taken d _ q) (quiet-rises (temperature-under c b z n (zone - 1) {r = statedReading r} {s = statedReading s} t))
 
 -- alike events, not refused, of any two chips of which the first is no hotter
 pub steps-rise : {c d : Chip} {g h : Given} → Valid (c .setup) → Under c d → Alike g h → NotRefused c g → NotRefused d h → Rises (givenStep c g) (givenStep d h)
 steps-rise {c} {g = g} {h = h} v u a p =
-    under-beside (λ (d : Chip). NotRefused d h → Rises (givenStep c g) (givenStep d h)) (λ zs x z n q. alike-rises c v z n a p q) u
+    under-beside (λ (d : Chip). NotRefused d h → Rises (givenStep c g) (givenStep d h)) (λ file zs x b z n q. alike-rises c v b z n a p q) u

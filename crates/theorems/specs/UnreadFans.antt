@@ -24,8 +24,8 @@ use Rattle.event.specs.Refusal.{step-cases}
 use Rattle.event.specs.NotTorn.{ReadOrNot, read, other, read-or-not}
 use Rattle.theorems.specs.Taken.{IsTaken}
 use Rattle.theorems.specs.Gauges.{fan-stays}
-use Rattle.theorems.specs.Sensors.{fan, giving}
-use Rattle.theorems.specs.Unread.{countAt, power-unread}
+use Rattle.theorems.specs.Sensors.{fan, IsMissing, GivesTaken, speed}
+use Rattle.theorems.specs.Unread.{power-unread}
 use Rattle.theorems.specs.Healthy.{NeverRead, none, more}
 use Rattle.theorems.specs.ShownBytes.{Shows}
 
@@ -55,22 +55,21 @@ module _ (i : ℕ) (c : Chip) (u : Uncounted i c) where
   taken-keeps bytes (other k) = rw (k c bytes) (u .kept)
 
   -- an event that does not give it a reading leaves it so
-  step-uncounted : (l : i < 4) (g : Given) → (IsTaken g → (n : ℕ) → g .event ≡ giving (fan i l) n → ⊥) → Uncounted i (givenStep c g .chip)
-  unfolding giving
+  step-uncounted : (l : i < 4) (g : Given) → (IsTaken g → GivesTaken c g (fan i l) → ⊥) → Uncounted i (givenStep c g .chip)
   step-uncounted l g h = record {
-    missing = fan-stays c i g h (u .missing);
+    missing = fan-stays c i g (λ t n e. h t (speed n e)) (u .missing);
     kept = step-cases c (g .event) (g .bytes) (λ (d : Chip). NoneOrFFh (getD (d .kept) i noKept)) (u .kept) (λ t. taken-keeps (g .bytes) (read-or-not (g .event)));
   }
 
 -- so do all that do not
-stays-uncounted : {i : ℕ} {l : i < 4} {gs : List Given} → NeverRead (fan i l) gs → (c : Chip) → Uncounted i c → Uncounted i (chipAfter c gs)
+stays-uncounted : {i : ℕ} {l : i < 4} {c : Chip} {gs : List Given} → NeverRead (fan i l) c gs → Uncounted i c → Uncounted i (chipAfter c gs)
 unfolding chipAfter
-stays-uncounted none c u = u
-stays-uncounted {i} {l} (more {g} h rest) c u = stays-uncounted rest (givenStep c g .chip) (step-uncounted i c u l g h)
+stays-uncounted none u = u
+stays-uncounted {i} {l} {c} (more {g = g} h rest) u = stays-uncounted rest (step-uncounted i c u l g h)
 
 -- at power-on it has none
 power-uncounted : (i : ℕ) → i < 4 → (s : Setup) → Uncounted i (powerOn s)
-unfolding countAt powerOn givenByte
+unfolding IsMissing powerOn givenByte
 power-uncounted i l s = record {
   missing = power-unread (fan i l) s;
   kept = replicate-each NoneOrFFh 4 noKept refl refl i;
@@ -94,5 +93,5 @@ uncounted-shows {i} l c u =
 
 -- From power-on, through any events none of which gives it a taken reading, a fan shows 3FFFh, FCh and FFh, whether or not its high byte
 -- is kept. An event that is refused may say anything.
-pub unread-shows : (i : ℕ) (l : i < 4) (s : Setup) (gs : List Given) → NeverRead (fan i l) gs → ShowsNoCount i (chipAfter (powerOn s) gs)
-unread-shows i l s gs n = uncounted-shows l _ (stays-uncounted n (powerOn s) (power-uncounted i l s))
+pub unread-shows : (i : ℕ) (l : i < 4) (s : Setup) (gs : List Given) → NeverRead (fan i l) (powerOn s) gs → ShowsNoCount i (chipAfter (powerOn s) gs)
+unread-shows i l s gs n = uncounted-shows l _ (stays-uncounted n (power-uncounted i l s))

@@ -12,17 +12,21 @@ use Rattle.laws.specs.Both.{both-left, both-right}
 use Rattle.laws.specs.Never.{never}
 use Rattle.map.specs.Bits.{isSet}
 use Rattle.map.specs.Names.{B-ERROR-STATUS-2, H-ERROR-STATUS-2}
+use Rattle.masks.specs.Masks.{voltMasked}
+use Rattle.masks.specs.Table.{volt-same}
 use Rattle.state.specs.declared.Chip.{Chip}
 use Rattle.state.specs.declared.Count.{Count}
 use Rattle.state.specs.declared.Count.the-variants.{Taken, Missing}
 use Rattle.state.specs.Parts.{registerAt, inError}
+use Rattle.state.specs.Order.{SameButZones}
 use Rattle.sense.specs.Errors.{lowLimit, highLimit, isOutside, comparedVolt}
 use Rattle.sense.specs.Hysteresis.{hysteresisOf, endsError, erringAfter, erredVolt}
 use Rattle.sense.specs.InError.{outside-starts, ended-by, unended-holds, inside-was, erring-stands, sound-sets-none, volt-registers, volt-erring, zero-registers}
 use Rattle.sense.specs.Events.{tookVoltage}
 use Rattle.sense.specs.Keeps.{voltage-keeps, fan-keeps}
-use Rattle.sense.specs.Marks.{Status, VoltStands}
-use Rattle.sense.specs.Alerts.{Alerts, volt-alerts}
+use Rattle.sense.specs.Marks.{Status, VoltStands, erred-volt-marks}
+use Rattle.sense.specs.ButZones.{but-masks, volt-stands-but}
+use Rattle.sense.specs.Alerts.{Alerts, volt-alerts, marks-masks}
 use Rattle.event.specs.declared.Event.{Event}
 use Rattle.event.specs.declared.Event.the-variants.{Voltage, Fan}
 use Rattle.event.specs.Event.{indexIn, countIn, eventIn, refusalOf, quietStep, refusedStep, takenStep}
@@ -77,11 +81,12 @@ module _ {i : ℕ} {n : Count} {g : Given} (r : GivesCount i n g) where
   unfolding takenStep quietStep
   step-volt c = rw (step-taken c (g .event) (g .bytes) (r .taken), r .event) (ap (λ (k : ℕ). tookVoltage c k n) (omega arith))
 
-  pub count-registers : (c : Chip) → givenStep c g .chip .registers ≡ erredVolt (c .registers) i (inError c i) n
+  -- the registers, but for the error bit of a zone that the voltage feeds
+  pub count-registers : (c : Chip) → SameButZones (erredVolt (c .registers) i (inError c i) n) (givenStep c g .chip .registers)
   count-registers c = rw (step-volt c) (volt-registers c i n there)
 
-  -- with VH 0 the error bits are those of document 01's rule, whether or not the channel was in error before
-  pub zero-count : (c : Chip) → hysteresisOf (c .registers) ≡ 0 → givenStep c g .chip .registers ≡ comparedVolt (c .registers) i n
+  -- with VH 0 they are those of document 01's rule, whether or not the channel was in error before
+  pub zero-count : (c : Chip) → hysteresisOf (c .registers) ≡ 0 → SameButZones (comparedVolt (c .registers) i n) (givenStep c g .chip .registers)
   zero-count c z = rw (step-volt c) (zero-registers c i n there z)
 
   -- the limits and VH that stand decide
@@ -125,9 +130,9 @@ does i c g = go (eqb (refusalOf (g .event) (g .bytes)) 0) refl
     go true e = taken-does i c (g .bytes) (gives (g .event)) (eqb-true _ 0 e)
     go false e = leaves (rw (step-refused c (g .event) (g .bytes) (eqb-false _ 0 e)))
 
-stands-shown : (i : ℕ) → i < 16 → (c : Chip) → VoltStands (c .registers) i → ShowsError i c
+stands-shown : (i : ℕ) → i < 16 → (c : Chip) → voltMasked (c .registers) i ≡ false → VoltStands (c .registers) i → ShowsError i c
 unfolding registerAt
-stands-shown i l c s = record { in-bmc = shown (omega arith) (s .bmc); in-host = shown (omega arith) (s .host); alerts = volt-alerts (c .registers) i l (s .bmc) }
+stands-shown i l c u s = record { in-bmc = shown (omega arith) (s .bmc); in-host = shown (omega arith) (s .host); alerts = volt-alerts (c .registers) i l u (s .bmc) }
   where
     shown : {a : ℕ} → Status a → T (isSet (registerAt c a) (2 ^ (i % 8))) → ShowsBit c a (2 ^ (i % 8))
     shown {a} p t = (rw (status-read c a p) t, rw (status-shown c a p) t)
@@ -181,12 +186,15 @@ module _ (i : ℕ) (c : Chip) (sized : Sized c) (g : Given) where
 
   -- ---- the bits
 
-  -- a reading that leaves the channel in error sets its bit in both groups
-  pub reading-sets : (n : ℕ) → GivesCount i (Taken n) g → inError (givenStep c g .chip) i ≡ true → ShowsError i (givenStep c g .chip)
-  reading-sets n r e =
-      stands-shown i (there r) _ (rw (count-registers r c) (erring-stands (c .registers) i (inError c i) n (there r) (sized .registers) (sym (count-erring r c sized) ∙ e)))
+  -- a reading that leaves the channel in error sets its bit in both groups, unless it is masked
+  pub reading-sets : (n : ℕ) → GivesCount i (Taken n) g → voltMasked (c .registers) i ≡ false → inError (givenStep c g .chip) i ≡ true → ShowsError i (givenStep c g .chip)
+  reading-sets n r u e =
+      let b = count-registers r c in
+      let m = erred-volt-marks (c .registers) i (there r) (inError c i) (Taken n) in
+      let unmasked = sym (volt-same (but-masks b) i) ∙ volt-same (marks-masks m) i ∙ u in
+      stands-shown i (there r) _ unmasked (volt-stands-but b (there r) (erring-stands (c .registers) i (inError c i) n (there r) (sized .registers) u (sym (count-erring r c sized) ∙ e)))
 
-  -- and one that does not sets none
-  pub reading-sets-none : (n : ℕ) → GivesCount i (Taken n) g → inError (givenStep c g .chip) i ≡ false → givenStep c g .chip .registers ≡ c .registers
+  -- and one that does not sets none, but for that of a zone that the voltage feeds
+  pub reading-sets-none : (n : ℕ) → GivesCount i (Taken n) g → inError (givenStep c g .chip) i ≡ false → SameButZones (c .registers) (givenStep c g .chip .registers)
   reading-sets-none n r e =
-      count-registers r c ∙ sound-sets-none (c .registers) i (inError c i) n (sym (count-erring r c sized) ∙ e)
+      rw (sound-sets-none (c .registers) i (inError c i) n (sym (count-erring r c sized) ∙ e)) at (count-registers r c)

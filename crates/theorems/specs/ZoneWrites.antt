@@ -4,6 +4,7 @@ use mathlib.Core.Path.{_≡_, refl, ap, _∙_}
 use mathlib.Core.Bool.{Bool, true, false, not}
 use mathlib.Core.List.{List}
 use Prim.Native.Nat.{ℕ, _+_, _-_, _<_}
+use native.Mathlib.Omega.{arith}
 use lib.Dec.{T}
 use lib.ListN.{length, getD}
 use Rattle.laws.specs.Pick.{pick}
@@ -21,6 +22,7 @@ use Rattle.state.specs.declared.Chip.{Chip}
 use Rattle.state.specs.declared.Zone.{Zone}
 use Rattle.state.specs.Parts.{noZone, registerAt, zoneAt}
 use Rattle.state.specs.With.{withRegister, withZone}
+use Rattle.sense.specs.Events.{readZone}
 use Rattle.bus.specs.declared.Change.{Change}
 use Rattle.bus.specs.Latch.{isOurs, transacted}
 use Rattle.bus.specs.Write.{stored, cleared, zoneWritable, changeWhole, changeHalf, changeKind, isShut, changeHome, changeOf, changed, wroteRegister, Written, wroteByte}
@@ -49,8 +51,8 @@ module _ (P : Reading → Type 0) (z : ℕ) where
 
 module _ {P : Reading → Type 0} (h : HalfKeeps P) (z : ℕ) (c : Chip) (m : Has P z c) where
   -- a zone gets a reading: another zone, or one that has P
-  pub set-has : (i : ℕ) (r : Reading) → (i ≡ z → P r) → Has P z (withZone c i r)
-  unfolding withZone zoneAt
+  pub set-has : (i : ℕ) (r : Reading) → (i ≡ z → P r) → Has P z (readZone c i r)
+  unfolding readZone withZone zoneAt
   set-has i r own = set-cases (λ (w : Zone). P (w .reading)) (c .zones) i z (record { reading = r }) noZone m own
 
   -- W, by the register's kind: a whole byte gives its zone a reading
@@ -88,8 +90,8 @@ module _ {P : Reading → Type 0} (h : HalfKeeps P) (z : ℕ) (c : Chip) where
   byte-still : (d : Chip) (a byte : ℕ) → Apart a → (Reaches (sourceOf c) (lockOf c) z a → P (readingOf byte)) → Still P z c d → Still P z c (wroteRegister d a byte)
   byte-still d a byte p own s = record {
     has = register-has h z d (s .has) a byte (rw (s .source, s .lock) own);
-    source = write-leaves d a byte TEMPERATURE-SOURCE-SELECT (p .source) ∙ s .source;
-    lock = write-leaves d a byte CONFIGURATION (p .lock) ∙ s .lock;
+    source = write-leaves d a byte TEMPERATURE-SOURCE-SELECT (λ e. omega arith) (λ e. omega arith) (p .source) ∙ s .source;
+    lock = write-leaves d a byte CONFIGURATION (λ e. omega arith) (λ e. omega arith) (p .lock) ∙ s .lock;
   }
 
   module _ (m : Has P z c) where

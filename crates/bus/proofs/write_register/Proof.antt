@@ -3,6 +3,7 @@ use mathlib.Core.Path.{_≡_, refl, sym, _∙_}
 use borrow.Author.Needs.{needs}
 use Rattle.state.specs.Made.{ofZones}
 use Rattle.state.specs.With.{withRegister, withZone}
+use Rattle.sense.specs.Events.{readZone}
 use Rattle.bus.specs.Write.{changeOf, changed, wroteRegister}
 use Rattle.bus.proofs.write_register.Statement.{statement}
 use Rattle.bus.proofs.write_register.Tie as tie
@@ -33,6 +34,9 @@ element-write-file c = search needs
 enum-known-zone : tie.Need-enum-known-zone
 enum-known-zone c = search needs
 
+compare-zone-requires : tie.Need-compare-zone-requires
+compare-zone-requires c κs = search needs
+
 with-reading-requires : tie.Need-with-reading-requires
 with-reading-requires c κs = search needs
 
@@ -45,8 +49,9 @@ unfolding wroteRegister changed withRegister
 returns-2 c = rw (sym (change-is (c .before .before .before)) ∙ c .before .home .given .1) (refl, refl)
 
 returns-3 : tie.Need-returns-3
-unfolding wroteRegister changed withZone
-returns-3 c = rw (sym (change-is (c .before .before .before .before)) ∙ c .before .before .zone .given .1) (c .with-reading .ensures, refl)
+unfolding wroteRegister changed readZone withZone
+returns-3 c =
+    rw (sym (change-is (c .before .before .before .before .before .before)) ∙ c .before .before .before .before .zone .given .1) (c .with-reading .ensures, c .before .compare-zone .ensures)
 
 pub write-register-spec : {M : Type 1} → statement M
 write-register-spec =
@@ -59,6 +64,7 @@ write-register-spec =
     cast-file
     element-write-file
     enum-known-zone
+    compare-zone-requires
     with-reading-requires
     returns
     returns-2

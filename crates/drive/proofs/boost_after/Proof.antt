@@ -25,15 +25,15 @@ cast-source c = search needs
 element-copy-out-source : tie.Need-element-copy-out-source
 element-copy-out-source c = search needs
 
-boost-enabled-requires : tie.Need-boost-enabled-requires
-boost-enabled-requires c κs = search needs
+zone-enabled-requires : tie.Need-zone-enabled-requires
+zone-enabled-requires c κs = search needs
 
 is-boosted-requires : tie.Need-is-boosted-requires
 is-boosted-requires c κs = search needs
 
 returns : tie.Need-returns
 unfolding boostAfter registerAt zoneAt
-returns c = rw (c .is-boosted .ensures, c .before .boost-enabled .ensures)
+returns c = rw (c .is-boosted .ensures, c .before .zone-enabled .ensures)
 
 pub boost-after-spec : {M : Type 1} → statement M
 boost-after-spec =
@@ -46,6 +46,6 @@ boost-after-spec =
     array-read-was
     cast-source
     element-copy-out-source
-    boost-enabled-requires
+    zone-enabled-requires
     is-boosted-requires
     returns)

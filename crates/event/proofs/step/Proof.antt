@@ -6,7 +6,7 @@ use borrow.Author.Needs.{needs}
 use borrow.Author.Tests.{eqb-false}
 use Rattle.state.specs.Parts.{registerAt, inError}
 use Rattle.state.specs.With.{withRegister, withZone, withVolt, withInError, withFan, withHotInput}
-use Rattle.sense.specs.Events.{tookTemperature, fedZone, tookHot, tookPin, tookReset, voltage-by-parts, fan-by-parts}
+use Rattle.sense.specs.Events.{readZone, tookTemperature, fedZone, tookHot, tookPin, tookReset, voltage-by-parts, fan-by-parts}
 use Rattle.bus.specs.Latch.{transacted}
 use Rattle.bus.specs.Write.{changed, wrote-by-parts}
 use Rattle.bus.specs.Read.{read-by-parts}
@@ -62,6 +62,9 @@ element-set-from-z c =
     let g = c .before .before .before .before .before in
     let p = passed (g .before .before .before .is-taken .ensures) (g .before .before .if1 .taken) (g .event .given .1) in
     let l = place 5 _ _ (p .inside) .below in omega arith
+
+compare-zone-requires : tie.Need-compare-zone-requires
+compare-zone-requires c κs = search needs
 
 enum-known-event-2 : tie.Need-enum-known-event-2
 enum-known-event-2 c = search needs
@@ -124,11 +127,17 @@ feeds-three-requires c κs = search needs
 element-set-from-z-2 : tie.Need-element-set-from-z-2
 element-set-from-z-2 c = search needs
 
+compare-zone-requires-2 : tie.Need-compare-zone-requires-2
+compare-zone-requires-2 c κs = search needs
+
 feeds-four-requires : tie.Need-feeds-four-requires
 feeds-four-requires c κs = search needs
 
 element-set-from-z-3 : tie.Need-element-set-from-z-3
 element-set-from-z-3 c = search needs
+
+compare-zone-requires-3 : tie.Need-compare-zone-requires-3
+compare-zone-requires-3 c κs = search needs
 
 enum-known-event-3 : tie.Need-enum-known-event-3
 enum-known-event-3 c = search needs
@@ -248,6 +257,9 @@ enum-known-zone c = search needs
 with-reading-requires : tie.Need-with-reading-requires
 with-reading-requires c κs = search needs
 
+compare-zone-requires-4 : tie.Need-compare-zone-requires-4
+compare-zone-requires-4 c κs = search needs
+
 enum-known-event-7 : tie.Need-enum-known-event-7
 enum-known-event-7 c = search needs
 
@@ -294,12 +306,13 @@ write-block-requires : tie.Need-write-block-requires
 write-block-requires c κs = search needs
 
 returns : tie.Need-returns
-unfolding takenStep quietStep tookTemperature withZone registerAt
+unfolding takenStep quietStep tookTemperature readZone withZone registerAt
 returns c =
-    let h = c .before .before in
+    let stated = c .before .before in
+    let h = stated .before .before in
     let g = h .before .before .before in
     let p = passed (g .before .before .before .is-taken .ensures) (g .before .before .if1 .taken) (g .event .given .1) in
-    taken-step p _ (rw (sym (h .hears-zone .ensures) ∙ c .before .if2 .taken, c .stated-reading .ensures))
+    taken-step p _ (rw (c .compare-zone .ensures, sym (h .hears-zone .ensures) ∙ stated .before .if2 .taken, stated .stated-reading .ensures))
 
 returns-2 : tie.Need-returns-2
 unfolding takenStep quietStep tookTemperature registerAt
@@ -309,21 +322,23 @@ returns-2 c =
     taken-step p _ (rw (sym (c .before .hears-zone .ensures) ∙ c .if2 .left))
 
 returns-3 : tie.Need-returns-3
-unfolding eventIn takenStep quietStep fedZone withVolt withInError inError withZone registerAt
+unfolding eventIn takenStep quietStep fedZone readZone withVolt withInError inError withZone registerAt
 returns-3 c =
-    let v = c .before .before .before .before in
+    let fed = c .before .before in
+    let v = fed .before .before .before .before in
     let g = v .before .before .before .before in
     let p = passed (g .before .before .before .is-taken .ensures) (g .before .before .if1 .taken) (g .event2 .given .1) in
-    taken-step p _ (rw (voltage-by-parts _ _ _ (place 16 _ _ (p .inside) .below), ← v .compare-voltage .ensures .0, ← v .compare-voltage .ensures .1, sym (c .before .feeds-three .ensures) ∙ c .if3 .taken, c .before .before .volt-reading .ensures))
+    taken-step p _ (rw (voltage-by-parts _ _ _ (place 16 _ _ (p .inside) .below), ← v .compare-voltage .ensures .0, ← v .compare-voltage .ensures .1, sym (fed .before .feeds-three .ensures) ∙ fed .if3 .taken, c .compare-zone2 .ensures, fed .before .before .volt-reading .ensures))
 
 returns-4 : tie.Need-returns-4
-unfolding eventIn takenStep quietStep fedZone withVolt withInError inError withZone registerAt
+unfolding eventIn takenStep quietStep fedZone readZone withVolt withInError inError withZone registerAt
 returns-4 c =
-    let three = c .before .before in
+    let fed = c .before .before in
+    let three = fed .before .before in
     let v = three .before .before .before .before in
     let g = v .before .before .before .before in
     let p = passed (g .before .before .before .is-taken .ensures) (g .before .before .if1 .taken) (g .event2 .given .1) in
-    taken-step p _ (rw (voltage-by-parts _ _ _ (place 16 _ _ (p .inside) .below), ← v .compare-voltage .ensures .0, ← v .compare-voltage .ensures .1, sym (three .before .feeds-three .ensures) ∙ three .if3 .left, sym (c .before .feeds-four .ensures) ∙ c .if4 .taken, three .before .before .volt-reading .ensures))
+    taken-step p _ (rw (voltage-by-parts _ _ _ (place 16 _ _ (p .inside) .below), ← v .compare-voltage .ensures .0, ← v .compare-voltage .ensures .1, sym (three .before .feeds-three .ensures) ∙ three .if3 .left, sym (fed .before .feeds-four .ensures) ∙ fed .if4 .taken, c .compare-zone3 .ensures, three .before .before .volt-reading .ensures))
 
 returns-5 : tie.Need-returns-5
 unfolding eventIn takenStep quietStep fedZone withVolt withInError inError registerAt
@@ -359,8 +374,8 @@ returns-9 : tie.Need-returns-9
 unfolding tickAnswer
 returns-9 c =
     let ticked = c .before .before .before .before .before .before .before .before .before .before .before in
-    let marked = ticked .before .before .before .before .before .before .before in
-    let g = marked .before .before .before .before in
+    let marked = ticked .before .before .before .before .before .before in
+    let g = marked .before .before .before .before .before in
     let p = passed (g .before .before .before .is-taken .ensures) (g .before .before .if1 .taken) (g .enum-told .given .1) in
     taken-step p _ (rw (c .errors-standing .ensures, c .before .before .before .alert-active .ensures) (tick-by-parts _ _ (marked .mark-missing .ensures) (ticked .tick .ensures)))
 
@@ -390,13 +405,14 @@ returns-12 c =
     taken-step p _ (rw (wrote-by-parts, ← t .transact .ensures, sym (ours .before .answers .ensures) ∙ ours .if5 .taken, ← c .before .before .before .change-of .ensures, ours .if5 .taken, c .before .home .given .1))
 
 returns-13 : tie.Need-returns-13
-unfolding takenStep writtenAnswer changed withZone
+unfolding takenStep writtenAnswer changed readZone withZone
 returns-13 c =
-    let ours = c .before .before .before .before .before .before .before .before in
+    let written = c .before .before in
+    let ours = written .before .before .before .before .before .before .before .before in
     let t = ours .before .before in
     let g = t .before .before .before in
     let p = passed (g .before .before .before .is-taken .ensures) (g .before .before .if1 .taken) (g .event6 .given .1) in
-    taken-step p _ (rw (wrote-by-parts, ← t .transact .ensures, sym (ours .before .answers .ensures) ∙ ours .if5 .taken, ← c .before .before .before .before .change-of .ensures, ours .if5 .taken, c .before .before .zone .given .1, ← c .with-reading .ensures))
+    taken-step p _ (rw (wrote-by-parts, ← t .transact .ensures, sym (ours .before .answers .ensures) ∙ ours .if5 .taken, ← written .before .before .before .before .change-of .ensures, ours .if5 .taken, written .before .before .zone .given .1, ← written .with-reading .ensures, ← c .compare-zone4 .ensures))
 
 returns-14 : tie.Need-returns-14
 unfolding takenStep writtenAnswer
@@ -476,6 +492,7 @@ step-spec =
     cast-z
     mul-z
     element-set-from-z
+    compare-zone-requires
     enum-known-event-2
     sub-at-2
     cast-gauge
@@ -491,8 +508,10 @@ step-spec =
     volt-reading-requires
     feeds-three-requires
     element-set-from-z-2
+    compare-zone-requires-2
     feeds-four-requires
     element-set-from-z-3
+    compare-zone-requires-3
     enum-known-event-3
     sub-at-3
     cast-gauge-2
@@ -527,6 +546,7 @@ step-spec =
     element-write-next-3
     enum-known-zone
     with-reading-requires
+    compare-zone-requires-4
     enum-known-event-7
     transact-requires-2
     answers-requires-2

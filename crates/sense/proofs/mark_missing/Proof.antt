@@ -9,9 +9,14 @@ miss-volts-requires c κs = search needs
 miss-fans-requires : tie.Need-miss-fans-requires
 miss-fans-requires c κs = search needs
 
+miss-zones-requires : tie.Need-miss-zones-requires
+miss-zones-requires c κs = search needs
+
 returns : tie.Need-returns
 unfolding missedFile
-returns c = rw (c .miss-fans .ensures, c .before .before .miss-volts .ensures)
+returns c =
+    rw (c .miss-zones .ensures, c .before .before .miss-fans .ensures, c .before .before .before .before .miss-volts .ensures)
 
 pub mark-missing-spec : {M : Type 1} → statement M
-mark-missing-spec = tie.close (tie.spec miss-volts-requires miss-fans-requires returns)
+mark-missing-spec =
+    tie.close (tie.spec miss-volts-requires miss-fans-requires miss-zones-requires returns)
