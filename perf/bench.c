@@ -1,5 +1,5 @@
-// The jobs of the programs bench and searches as a plain C program, written from documents 01 and 02 (Q-1, Q-2, Q-4, Q-6, Q-7, Q-11) and
-// the data sheet's register list for comparison: same input, same output. It shares nothing with the Rattle sources.
+// The jobs of the programs bench and searches as a plain C program, written from documents 01 and 02 (Q-1, Q-2, Q-4, Q-6, Q-7, Q-11, Q-12)
+// and the data sheet's register list for comparison: same input, same output. It shares nothing with the Rattle sources.
 // usage: bench < session | bench searches < searches
 // The second runs the step search of a table on cases, and counts the thresholds compared.
 #include <stdint.h>
@@ -54,6 +54,8 @@ static void fill_map(void)
         initial[a] = a % 2 ? 0xFF : 0xFC;
         writable[a] = a % 2 ? 0xFF : 0xFC;
     }
+    for (int a = 0x79; a <= 0x7F; a += 2) initial[a] = 0x7F; // "Zone limits start at the bench's own 80h low and 7Fh high"
+    initial[0xE4] = 0x00;                                    // "on the bench the sleep state starts at S0"
 }
 
 // ---- the chip
@@ -101,17 +103,51 @@ static const struct setup *plain_setup(void)
     return &s;
 }
 
-static void mark_volt(struct chip *c, int i)
+// ---- errors, a bit each: from these on those of the sixteen voltages, of the four fans and of the four zones
+
+enum { VOLTS = 0, FANS = 16, ZONES = 20 };
+
+// the sleep states, as E4h has them
+enum { S0, S1, S3, S4_5 };
+
+// by E9h or EBh: the channels 12 to 14, and the zones 1 and 2 together
+static unsigned masked_by(int b) { return (b & 0x07) << (VOLTS + 11) | (b & 0x08 ? 0x03u << ZONES : 0); }
+
+// the data sheet's column "Sleep Masking"; of channel 16 and of the zones 3 and 4 it says "none"
+static unsigned masked(const struct chip *c)
 {
-    c->reg[0x41 + i / 8] |= 1 << i % 8;
-    c->reg[0x49 + i / 8] |= 1 << i % 8;
+    const unsigned rails = 0x47FF << VOLTS; // the channels 1 to 11 and 15
+    switch (c->reg[0xE4]) {
+    case S1: return c->reg[0xE6] << FANS;
+    case S3: return rails | c->reg[0xE8] << FANS | masked_by(c->reg[0xE9]);
+    case S4_5: return rails | 0x0F << FANS | masked_by(c->reg[0xEB]);
+    }
+    return 0;
 }
 
-static void mark_fan(struct chip *c, int i)
+// in the BMC group
+static unsigned standing(const struct chip *c)
 {
-    c->reg[0x47] |= 1 << i;
-    c->reg[0x4F] |= 1 << i;
+    return c->reg[0x41] << VOLTS | c->reg[0x42] << (VOLTS + 8) | (c->reg[0x47] & 0x0F) << FANS | (c->reg[0x40] & 0x0F) << ZONES;
 }
+
+// "A masked bit is neither set nor counted, and one already standing remains until cleared but no longer holds ALERT. The error count takes
+// in the zone bits."
+static int errors(const struct chip *c) { return __builtin_popcount(standing(c) & ~masked(c)); }
+
+// a bit of the BMC group, at an address, and the same of the Host group
+static void mark(struct chip *c, int error, int a, int bit)
+{
+    if (masked(c) >> error & 1) return;
+    c->reg[a] |= 1 << bit;
+    c->reg[a + 8] |= 1 << bit;
+}
+
+static void mark_volt(struct chip *c, int i) { mark(c, VOLTS + i, 0x41 + i / 8, i % 8); }
+
+static void mark_fan(struct chip *c, int i) { mark(c, FANS + i, 0x47, i); }
+
+static void mark_zone(struct chip *c, int i) { mark(c, ZONES + i, 0x40, i); }
 
 static int low_limit(const struct chip *c, int i) { return c->reg[0x90 + 2 * i]; }
 
@@ -135,13 +171,40 @@ static void compare_volt(struct chip *c, int i, int n)
     if (c->in_error[i]) mark_volt(c, i);
 }
 
+// which of the four pairs of limits, and of the four bits, is a zone's: 1a and 1b share theirs, 2a and 2b too
+static int limits_of(int zone) { return zone < 4 ? zone / 2 : zone - 2; }
+
+static int zone_low(const struct chip *c, int zone) { return (int8_t)c->reg[0x78 + 2 * limits_of(zone)]; }
+
+static int zone_high(const struct chip *c, int zone) { return (int8_t)c->reg[0x79 + 2 * limits_of(zone)]; }
+
+static int zone_enabled(const struct chip *c, int zone)
+{
+    return zone == 1 ? c->reg[0x31] >> 2 & 1 : zone == 3 ? c->reg[0x31] >> 3 & 1 : 1;
+}
+
+// "80h low and 7Fh high; a zone with both is not watched and never errs, nor does 1b or 2b while not enabled"
+static int zone_watched(const struct chip *c, int zone)
+{
+    return zone_enabled(c, zone) && !(zone_low(c, zone) == -128 && zone_high(c, zone) == 127);
+}
+
+// "Any other zone below its low or above its high limit, in signed whole degrees compared with the full reading, sets its bit in both
+// groups at the event that sets the reading"
+static void set_zone(struct chip *c, int zone, int reading)
+{
+    c->zone[zone] = reading;
+    if (reading == MISSING || !zone_watched(c, zone)) return;
+    if (reading < DEGREE * zone_low(c, zone) || reading > DEGREE * zone_high(c, zone)) mark_zone(c, limits_of(zone));
+}
+
 static void take_volt(struct chip *c, int i, int n)
 {
     c->volt[i] = n;
     if (n != MISSING) compare_volt(c, i, n);
     int source = c->reg[0x31], reading = n == MISSING || n == 0 ? MISSING : DEGREE * (n - 128);
-    if (i == 10 && source & 0x01 && !(source & 0x10)) c->zone[4] = reading;
-    if (i == 14 && source & 0x02) c->zone[5] = reading;
+    if (i == 10 && source & 0x01 && !(source & 0x10)) set_zone(c, 4, reading);
+    if (i == 14 && source & 0x02) set_zone(c, 5, reading);
 }
 
 static void take_fan(struct chip *c, int i, int n)
@@ -153,7 +216,7 @@ static void take_fan(struct chip *c, int i, int n)
 static void take_temperature(struct chip *c, int zone, int reading)
 {
     if (zone == 4 && c->reg[0x31] & 0x11) return;
-    c->zone[zone] = reading;
+    set_zone(c, zone, reading);
 }
 
 // ---- the bus
@@ -201,9 +264,9 @@ static void write_register(struct chip *c, int a, int b)
     if (locked[a] && c->reg[0xE3] & 0x02) return;
     // "A bus write of the whole byte sets the fraction to 0, of the half bit the rest to 0."
     if ((z = whole_zone(a)) >= 0) {
-        if (zone_open(c, z)) c->zone[z] = b == 0x80 ? MISSING : DEGREE * (b < 128 ? b : b - 256);
+        if (zone_open(c, z)) set_zone(c, z, b == 0x80 ? MISSING : DEGREE * (b < 128 ? b : b - 256));
     } else if ((z = half_zone(a)) >= 0) {
-        if (zone_open(c, z) && c->zone[z] != MISSING) c->zone[z] = DEGREE * floor_degrees(c->zone[z]) + HALF * (b >> 7);
+        if (zone_open(c, z) && c->zone[z] != MISSING) set_zone(c, z, DEGREE * floor_degrees(c->zone[z]) + HALF * (b >> 7));
     } else if (a >= 0x40 && a <= 0x4F) {
         c->reg[a] &= ~(b & writable[a]);
     } else {
@@ -257,7 +320,7 @@ static const struct block *transact_block(struct chip *c, int address, int comma
 static void reset_pin(struct chip *c)
 {
     c->reg[0xE3] = (c->reg[0xE3] & ~0x02) | 0x04;
-    c->reg[0xE4] |= 0x03;
+    c->reg[0xE4] = S4_5;
 }
 
 // ---- the tick
@@ -298,23 +361,20 @@ static int table_ask(struct chip *c, int table)
     return c->s.duty[c->step[table]];
 }
 
-static int errors(const struct chip *c)
-{
-    return __builtin_popcount(c->reg[0x41]) + __builtin_popcount(c->reg[0x42]) + __builtin_popcount(c->reg[0x47] & 0x0F);
-}
-
 static void tick(struct chip *c, int output[2])
 {
     for (int i = 0; i < 16; i++)
         if (c->volt[i] == MISSING && !(low_limit(c, i) == 0x00 && high_limit(c, i) == 0xFF)) mark_volt(c, i);
     for (int i = 0; i < 4; i++)
         if (c->fan[i] == MISSING && fan_limit(c, i) != 0x3FFF) mark_fan(c, i);
+    for (int z = 0; z < 6; z++)
+        if (c->zone[z] == MISSING && zone_watched(c, z)) mark_zone(c, limits_of(z)); // "missing sets it at the tick"
 
     int ask[4], any = 0;
     for (int t = 0; t < 4; t++) ask[t] = table_ask(c, t);
     for (int z = 0; z < 6; z++) {
-        int enabled = z == 1 ? c->reg[0x31] >> 2 & 1 : z == 3 ? c->reg[0x31] >> 3 & 1 : 1, b = c->s.boost[z], reading = c->zone[z];
-        if (!enabled || b == MISSING)
+        int b = c->s.boost[z], reading = c->zone[z];
+        if (!zone_enabled(c, z) || b == MISSING)
             c->boosted[z] = 0;
         else if (reading == MISSING || reading >= DEGREE * b)
             c->boosted[z] = 1;
@@ -490,15 +550,16 @@ static inline __attribute__((always_inline)) int take_line(struct chip *c, int *
     case 'K':
         if (*at != '\n') return 4;
         {
-            int output[2];
+            int output[2], n;
             tick(c, output);
+            n = errors(c);
             put_char('K');
-            put_number(!(c->reg[0xE3] & 0x04) && errors(c) > 0);
+            put_number(!(c->reg[0xE3] & 0x04) && n > 0);
             put_number(c->duty[0]);
             put_number(c->duty[1]);
             put_number(output[0]);
             put_number(output[1]);
-            put_number(errors(c));
+            put_number(n);
             put_char('\n');
         }
         break;

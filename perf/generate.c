@@ -3,8 +3,8 @@
 // board: a board's forty minutes, 48,000 ticks, each after five temperatures, sixteen voltages, four fan counts and some bus reads, its
 // limits written first. session SEED: a session, valid or damaged, most often a short one, that the seed decides: setups with offsets up to
 // 63, right and wrong ones, and scenes of blocks, fan counts, voltages about their limits, temperatures in half degrees and in sixteenths,
-// right and wrong ones, about the tables' thresholds, the boosts, the halves, the whole degrees and the ends of their range, and bus writes
-// of a zone's bytes after them.
+// right and wrong ones, about the tables' thresholds, the boosts, their limits, the halves, the whole degrees and the ends of their range,
+// bus writes of a zone's bytes after them, and sleep states and masks, in which voltages, fans and zones err or are missing.
 // base SEED: one with the letters of document 01 alone.
 // searches SEED: tables, and step searches a sixteenth about their thresholds, valid or damaged, under 32,000 bytes, that the seed decides.
 // The board and the base sessions never change, so that counts made on them can be held against each other.
@@ -204,7 +204,9 @@ static int block_address(void)
     return own_address();
 }
 
-static const int counts[] = {8, 8, 6, 16, 4, 8, 12, 32, 8, 8, 16, 9}; // of the commands F2h to FDh
+// of the commands F2h to FDh
+static const int counts[] = {8, 8, 6, 16, 4, 8, 12, 32, 8, 8, 16, 9};
+static const int firsts[] = {0x40, 0x48, 0x50, 0x56, 0x67, 0x6E, 0x78, 0x90, 0xB4, 0xC8, 0xD0, 0xE5};
 
 static int some_command(void)
 {
@@ -218,6 +220,7 @@ static int some_block_byte(int command, int i)
     switch (command) {
     case 0xF2: case 0xF3: return one_in(3) ? 0x00 : one_in(2) ? 0xFF : one_in(2) ? 1 << below(8) : below(256);
     case 0xF4: return some_byte(0x52);
+    case 0xF8: return one_in(4) ? (i % 2 ? 0x7F : 0x80) : i % 2 ? between(10, 90) : between(-40, 60);
     case 0xF9: return one_in(3) ? (i % 2 ? 0xFF : 0x00) : i % 2 ? between(100, 255) : below(120);
     case 0xFA: return one_in(2) ? 0xFF : below(256);
     }
@@ -239,6 +242,15 @@ static void write_block(int address, int command, int count, int n)
     byte(command);
     byte(count);
     for (int i = 0; i < n; i++) byte(some_block_byte(command, i));
+}
+
+// a block write up to its data, which are to be as many as the command has
+static void begin_block(int command)
+{
+    add("P");
+    byte(own_address());
+    byte(command);
+    byte(counts[command - 0xF2]);
 }
 
 static void replace(int at, int cut, const char *text)
@@ -360,7 +372,7 @@ static void refused_fan_line(int fan)
 
 // ---- voltages
 
-static int held[256]; // guessed: the limits, BCh, E3h and the registers that the tables ask for, at their addresses
+static int held[256]; // guessed: the limits, the masks, BCh, E3h, E4h and the registers that the tables ask for, at their addresses
 
 static int low_limit(int channel) { return held[0x90 + 2 * channel]; }
 
@@ -434,16 +446,14 @@ static struct window some_window(void)
     return w;
 }
 
-static void write_windows(void)
+// of the channels those whose bit is set get limits, the others those of power-on
+static void write_windows(int channels)
 {
-    add("P");
-    byte(own_address());
-    byte(0xF9);
-    byte(32);
+    begin_block(0xF9);
     for (int i = 0; i < 16; i++) {
         struct window w = some_window();
-        byte(w.low);
-        byte(w.high);
+        byte(channels >> i & 1 ? w.low : 0x00);
+        byte(channels >> i & 1 ? w.high : 0xFF);
     }
 }
 
@@ -749,6 +759,17 @@ static int floor_degrees(int n) { return (n - COLDEST) / DEGREE + COLDEST / DEGR
 
 static int half_bit(int n) { return (n - COLDEST) % DEGREE >= HALF; }
 
+static int given[6]; // guessed: the zones' readings
+
+static int whole_byte(int n) { return n == MISSING ? 0x80 : floor_degrees(n); }
+
+// the whole byte of zone 3 or 4 by a block write, in which the other has the degrees that it has
+static void zone_by_block(int zone, int n)
+{
+    begin_block(0xF4);
+    for (int i = 0; i < 6; i++) byte(i < 2 || i > 3 ? below(256) : whole_byte(i + 2 == zone ? n : given[i + 2]));
+}
+
 // zone 3 or 4, to a reading rounded down to a half
 static void zone_by_bus(int zone, int n)
 {
@@ -756,23 +777,27 @@ static void zone_by_bus(int zone, int n)
         write_own(half_register(zone), 0x80 | below(128));
         put_off();
     }
-    write_own(whole_register(zone), n == MISSING ? 0x80 : floor_degrees(n));
+    if (one_in(5)) zone_by_block(zone, n);
+    else write_own(whole_register(zone), whole_byte(n));
 }
 
 static void zone_by_volt(int zone, int n)
 {
     volt_event(zone == 4 ? 10 : 14);
-    if (n == MISSING && one_in(2)) field("-");
+    if (n == MISSING && one_in(3)) field("-");
     else number(n == MISSING ? 0 : floor_degrees(n) + 128);
 }
+
+static int fed(int zone) { return zone == 4 ? (held[0x31] & 0x11) == 0x01 : zone == 5 && held[0x31] & 0x02; }
+
+static int open_to_bus(int zone) { return zone == 4 ? held[0x31] & 0x10 : zone == 5 && !(held[0x31] & 0x02); }
 
 // gives a zone this reading, as near as the way in that is open to it has it
 static void give(int zone, int n)
 {
-    int source = held[0x31];
     if (n != MISSING) n = within_reach(n);
-    if (zone == 4 ? (source & 0x11) == 0x01 : zone == 5 && source & 0x02) zone_by_volt(zone, n);
-    else if (zone == 5 || (zone == 4 && source & 0x10)) zone_by_bus(zone, n);
+    if (fed(zone)) zone_by_volt(zone, n);
+    else if (open_to_bus(zone)) zone_by_bus(zone, n);
     else temperature(zone, n);
 }
 
@@ -847,6 +872,172 @@ static void refused_temperature_line(int zone)
     refused = 1;
 }
 
+// ---- the zones' limits
+
+static int signed_byte(int b) { return (b & 255) < 128 ? b & 255 : (b & 255) - 256; }
+
+// of the low limit; the high one stands behind it
+static int limit_register(int zone) { return 0x78 + 2 * (zone < 4 ? zone / 2 : zone - 2); }
+
+static int zone_low(int zone) { return DEGREE * signed_byte(held[limit_register(zone)]); }
+
+static int zone_high(int zone) { return DEGREE * signed_byte(held[limit_register(zone) + 1]); }
+
+static int zone_watched(int zone) { return held[limit_register(zone)] != 0x80 || held[limit_register(zone) + 1] != 0x7F; }
+
+static int zone_bit(int zone) { return 1 << (limit_register(zone) - 0x78) / 2; }
+
+// in degrees
+static struct window some_zone_window(void)
+{
+    struct window w;
+    w.low = one_in(3) ? between(-70, 0) : between(-10, 60);
+    w.high = w.low + (one_in(2) ? between(1, 8) : between(1, 60));
+    switch (below(24)) {
+    case 0: w.low = -128; break;
+    case 1: w.high = 127; break;
+    case 2: w.low = -128; w.high = 127; break;
+    case 3: w.high = -128; break;
+    case 4: w.low = w.high = -128; break;
+    case 5: w.low = between(125, 127); w.high = 127; break;
+    case 6: w.low = -128; w.high = between(-128, -126); break;
+    case 7: w.low = -127; w.high = 126; break;
+    case 8: w.high = w.low; break;
+    case 9: w.high = w.low - between(1, 8); break;
+    case 10: w.low = 0; w.high = between(0, 20); break;
+    case 11: w.low = between(-20, 0); w.high = 0; break;
+    case 12: w.low = between(-2, 0); w.high = between(-1, 1); break;
+    }
+    return w;
+}
+
+// of the zones 1 to 4 those whose bit is set get limits, the others those of power-on
+static void write_zone_windows(int zones)
+{
+    begin_block(0xF8);
+    for (int i = 0; i < 4; i++) {
+        struct window w = some_zone_window();
+        byte(zones >> i & 1 ? w.low : 0x80);
+        byte(zones >> i & 1 ? w.high : 0x7F);
+    }
+    for (int i = 0; i < 4; i++) byte(below(256));
+}
+
+// most often the degrees of the zone's reading, rounded down or up
+static int limit_at_reading(int zone)
+{
+    static const int some[] = {-128, -127, -1, 0, 1, 126, 127};
+    int n = given[zone] == MISSING ? between(-40, 80) : floor_degrees(given[zone]);
+    if (one_in(6)) return some[below(7)];
+    return n + (one_in(4) ? between(-3, 3) : below(2));
+}
+
+// the least, or little more, that the way in that is open to the zone can state
+static int beside_limit(int zone)
+{
+    if (fed(zone)) return DEGREE;
+    return open_to_bus(zone) ? HALF * between(1, 2) : one_in(2) ? 1 : a_little();
+}
+
+static int limit_corner(int zone)
+{
+    int low = zone_low(zone), high = zone_high(zone), beside = beside_limit(zone);
+    int corners[] = {low - beside, low, low + beside, high - beside, high, high + beside};
+    return within_reach(corners[below(6)]);
+}
+
+static int within_limits(int zone, int n) { return n >= zone_low(zone) && n <= zone_high(zone); }
+
+// most often at a corner; any reading where none is found
+static int reading_by_limits(int zone, int within)
+{
+    int n = limit_corner(zone);
+    for (int i = 0; i < 20 && within_limits(zone, n) != within; i++) n = one_in(4) ? between(COLDEST, HOTTEST) : limit_corner(zone);
+    return n;
+}
+
+// at a corner of the limits or a degree beside one; now and then -128, which is missing
+static int degrees_by_limits(int zone)
+{
+    int n = limit_corner(zone), beside = DEGREE * between(-1, 1);
+    return one_in(8) ? -128 : floor_degrees(within_reach(n + beside));
+}
+
+// the whole bytes of zones 3 and 4
+static void write_zones(void)
+{
+    begin_block(0xF4);
+    for (int i = 0; i < 6; i++) byte(i == 2 || i == 3 ? degrees_by_limits(i + 2) : below(256));
+}
+
+// ---- sleep
+
+enum { S0, S1, S3, S4_5 };
+
+static int sleep_state(void) { return held[0xE4] & 0x03; }
+
+// every other time with bits that E4h does not have
+static void write_sleep_state(int sleep) { write_own(0xE4, sleep | (one_in(2) ? below(64) << 2 : 0)); }
+
+// back to S0 and, where GMSK is set, most often to ALERT
+static void wake(void)
+{
+    if (held[0xE3] & 0x04 && !one_in(4)) {
+        write_own(0xE3, 0x00);
+        put_off();
+    }
+    write_own(0xE4, 0x00);
+}
+
+static int some_mask(void)
+{
+    int flipped = one_in(2) ? 0xFF : 0x00;
+    return one_in(3) ? flipped : one_in(2) ? flipped ^ 1 << below(4) : below(256);
+}
+
+static void write_masks(void)
+{
+    int all = one_in(3) ? 0xFF * below(2) : -1, mask;
+    begin_block(0xFD);
+    for (int i = 0; i < 9; i++) mask = some_mask(), byte(all < 0 ? mask : all);
+}
+
+static int fan_limit(int fan) { return held[0xB5 + 2 * fan] << 6 | held[0xB4 + 2 * fan] >> 2; }
+
+static int some_fan_limit(void) { return one_in(8) ? 0x3FFF - below(2) : one_in(8) ? below(2) : below(0x3FFF); }
+
+static void write_fan_limit(int fan, int limit)
+{
+    write_own(0xB4 + 2 * fan, limit << 2);
+    put_off();
+    write_own(0xB5 + 2 * fan, limit >> 6);
+}
+
+// of the fans those whose bit is set get a limit, the others that of power-on
+static void write_fan_limits(int fans)
+{
+    begin_block(0xFA);
+    for (int i = 0; i < 4; i++) {
+        int limit = some_fan_limit();
+        if (!(fans >> i & 1)) limit = 0x3FFF;
+        byte(limit << 2);
+        byte(limit >> 6);
+    }
+}
+
+static void clear_all(int command)
+{
+    begin_block(command);
+    for (int i = 0; i < 8; i++) byte(0xFF);
+}
+
+// most often the next above the limit
+static int count_above(int fan)
+{
+    int limit = fan_limit(fan);
+    return one_in(2) || limit >= 0x3FFF ? clamp(limit + 1, 0, 0x3FFF) : between(limit + 1, 0x3FFF);
+}
+
 // ---- scenes
 
 // Lines that belong together, parted by spaces. G and P: a right block line, of the command that ends in that digit or, for ?, of one
@@ -875,7 +1066,23 @@ static void refused_temperature_line(int zone)
 // `: a write of its whole byte, most often with the degrees it has, or of its half bit, open or not.
 // 1: a write of 31h that enables 1b and 2b. 2: one of BDh by which all tables count in half degrees. 5, 6 and 7: one of 31h that opens
 // zone 3 to T and U, to the bus or to channel 11. 8 and 9: one of 35h by which all tables follow zones 3 and 4, or 1 and 2.
-// S: a setup, every other one with a wrong number. Others: events.
+// S: a setup, every other one with a wrong number.
+// 4 and one of these, of a zone as above: [ and ]: a write of the low or high limit that the scene keeps. { and }: one that makes it the
+// degrees of the zone's reading, or nearly. ( and ): one that makes it 80h or 7Fh. @: a reading at the high limit. < and >: a little below
+// or above it. _: at the low limit. , and ': a little below or above it. = and !: within or outside the limits. .: at a corner of them. -:
+// missing. t: a T or U at a corner of the limits, taken or not. ; and v: a write of its whole byte, or a V of the channel that may feed it,
+// there too, open or not. h: a write of its half bit, most often with the half it has. c and C: a write that clears its bit, now and then
+// the others, in the BMC or the Host group. q and Q: a read of them. r: one of a limit or an error status. |: a block write of the limits
+// of all zones. o: one by which no zone but the scene's two is watched. P: one of zones 3 and 4. w: a write of 31h that opens these in any
+// way. e: one that enables or disables 1b, 2b or both. n: one that disables both. x and y: one by which channel 15 feeds zone 4, or does
+// not.
+// 3 and one of these: 0, 1, 3 and 4: a write of E4h with S0, S1, S3 or S4/5. s: with the state that the scene keeps. ?: with any. w: with
+// S0, and then of E3h. f and t: one of the fans' mask, or of that of voltages and zones, for the state that the scene keeps. m: one of any
+// mask. |: a block write of all. r: a read of E4h or a mask. k and K: a block write that clears all bits of the BMC or the Host group. v:
+// one of limits by which no voltage but those of the scene's two channels is watched. Of a fan, a or b: [ and (: writes of a limit, or of
+// 3FFFh. ! and =: a count above the limit or not. c, C, q and Q: as of a zone. F: a block write of the limits of all fans. o: one by which
+// no fan but the scene's two is watched.
+// Others: events.
 static const char *const scenes[] = {
     "O O", "O O", "O O O", "O O O", "O O O", "O O G?", "P? O O G?", "O P? O G?", "O A O G?", "G?", "G? G? P? G?", "P? G?", "P? K G?",
     "G2 G3 G4 G5 G7",
@@ -994,12 +1201,104 @@ static const char *const first_zone_scenes[] = {
     "ta S S S K &a", "ta S S K", "ka S S S", "/a S S S K", "S ta S K", "#a S S S K ta", "#a S S K #b", "#a #b S S ta K S",
     "#a #b #a S S S K", "#a #b #a #b S S K", "#a ta S S",
 };
+static const char *const limit_starts[] = {
+    "4w 4[a 4]a", "4w 4]a 4[a", "4w 4[a 4]a 4[b 4]b", "4w 4|", "4w 4o", "4w 4o 3k", "3v 3o 4o 4w 3k 3K", "4w 4.a 4{a 4}a",
+    "4=a 4=b 4}a 4{b", "4e 4[a 4]a 4[b 4]b", "1 4[a 4]a 4[b 4]b", "3w 4w 4[a 4]a", "1 4o 3k", "3w 3v 3o 4w 4o 3k 3K",
+};
+static const char *const limit_scenes[] = {
+    "4=a 4ca 4@a 4qa 4>a 4qa 4Qa K", "4=a 4ca 4_a 4qa 4,a 4qa 4Qa K", "4@a 4qa K 4>a 4ca 4@a 4qa K", "4>a 4ca 4<a 4qa 4>a 4qa K",
+    "4,a 4Ca 4'a 4Qa 4,a 4Qa K", "4_a 4ca 4Ca 4,a 4qa 4Qa 4ca 4'a 4qa K", "4ca 4>a 4Qa 4qa 4Ca 4_a 4Qa K", "4ca 4@a 4<a 4qa 4_a 4'a 4qa",
+    "4ca 4@a 4qa 4_a 4qa 4>a K", "4ca 4'a 4qa 4<a 4qa 4,a K", "4.a 4qa 4ca 4.a 4qa 4ca 4.a 4qa", "4.a 4Qa 4Ca 4.a 4Qa K",
+    "4.a 4.b 4qa 4qb K", "4ca 4.a K 4ca 4.a K 4ca 4.a K", "4!a 4!b K 4ca 4=a K 4qb", "4!a 4ca 4=a 4qa 4Qa K", "4=a 4ca 4!a 4=a 4qa K",
+    "4!a 4!a 4Ca K 4Qa 4qa", "4ca 4!a 4qa 4ca 4!a 4qa 4Qa K",
+    "4!a K K 4ca K 4qa K", "4!a 4ca 4Ca K 4qa 4Qa K", "4!a 4Ca K 4Qa 4qa 4ca K", "4!a 4ca K 4=a K 4!a K", "4=a 4ca 4}a K 4qa K",
+    "4=a 4ca 4{a 4qa K 4qa", "4=a 4ca 4{a 4}a 4qa K 4=a 4qa", "4=a 4ca 4]a 4[a K 4qa 4.a 4qa", "4.a 4ca 4}a 4.a 4qa 4}a 4.a 4qa",
+    "4.a 4ca 4{a 4.a 4qa 4{a 4.a 4qa", "4r 4[a 4r 4]a 4r 4.a 4qa", "4=a 4ca 4| K 4qa 4.a 4qa G8", "4| G8 4.a 4qa 4| 4.a G2",
+    "4| 4.a 4.b G2 G3 K", "4| 4.1 4.3 4.5 4.6 G2 P2 4.1 4.3 4.5 4.6 G2 G3 K",
+    "4-a K 4qa 4ca 4Ca K 4qa 4Qa", "4-a 4ca 4qa K 4=a 4ca K 4qa", "4-a 4ca 4=a K 4qa", "4-a 4ca 4!a 4ca K 4qa", "4=a 4ca 4-a 4qa K 4qa 4Qa",
+    "4ca 4-a 4qa 4Qa K", "4w 4ca 4-a 4qa K 4qa", "4w 4[a 4=a 4ca 4-a 4qa K", "4-a 4-b K 4ca 4cb K 4qa 4=a 4cb K 4qb", "4-a P2 K G2 P3 K G3",
+    "4-a 4ca 4ha 4qa K 4qa", "4=a 4-a 4ca 4ha 4qa", "4w 4-a 4ca 4ha 4qa K",
+    "4-a 4ca 4(a 4)a K 4qa", "4-a 4ca 4(a K 4qa", "4-a 4ca 4)a K 4qa", "4-a 4(a 4)a 4ca K 4qa 4[a 4qa K 4qa", "4-a 4)a 4(a 4ca K 4qa 4]a K",
+    "4ca 4(a 4!a 4qa K", "4ca 4)a 4!a 4qa 4Qa", "4(a 4)a 4ca ta 4qa ta 4qa K", "4!a 4(a 4)a 4qa K 4ca 4!a 4qa K", "4)a 4ca 4>a 4qa 4>a K",
+    "4[a 4)a 4ca 4>a 4qa K", "4[a 4)a 4ca 4@a 4qa 4>a 4qa 4Qa", "4)a 4_a 4ca 4>a 4qa 4ca 4>a K", "4(a 4ca 4,a 4qa 4_a 4qa K",
+    "4(a 4)a 4ca 4.a 4{a K 4qa 4.a 4qa", "4(a 4)a 4ca 4>a 4qa 4[a 4>a 4qa",
+    "4n 4[2 4]2 4c2 4!2 4q2 K 4q2 1 4q2 K 4q2 4!2 4q2 K", "4n 4=1 4-2 4c2 K 4q2 1 4q2 K 4q2 4c2 4=2 K 4q2",
+    "4n 4[4 4]4 4c4 4!4 4q4 K 4q4 1 4q4 K 4q4 4!4 4q4 K", "4n 4=3 4-4 4c4 K 4q4 1 4q4 K 4q4 4c4 4=4 K 4q4",
+    "1 4=1 4=2 4c1 K 4q1 4-2 K 4q1 4c1 4n K 4q1", "1 4=3 4=4 4c3 4!4 4q3 4Q3 K 4c3 4=3 K 4q3", "1 4-1 4=2 4c1 K 4q1 4c1 4=1 K 4q1",
+    "1 4-3 4=4 4c3 K 4q3", "1 4=3 4-4 4c3 K 4q3", "1 4c1 4!1 4=2 4q1 4c1 4!2 4=1 4q1 K", "4e 4.2 4.4 4q2 K 4e 4.2 4.4 4q4 K",
+    "4n 4-4 4c4 K 4q4 4e K 4q4 4e K 4q4", "4n 4!4 4c4 1 K 4q4 4.4 4q4", "4n 4!2 4c2 1 K 4q2 4.2 4q2", "1 4!2 4c2 4n 4!2 4q2 K",
+    "4e 4ca 4!a 4qa K 4e K 4qa",
+    "5 4c5 4.5 4q5 4c5 6 4.5 4q5 4c5 7 4.5 4q5 K", "6 4@5 4c5 `5 4q5 4c5 `5 4q5 K", "6 4!5 4c5 4h5 4q5 4c5 ;5 4q5",
+    "6 4_5 4c5 `5 4q5 4C5 `5 4Q5", "5 4!5 4c5 4C5 6 4h5 4q5 4Q5 K", "5 4>5 6 4c5 `5 4q5 4c5 4h5 4q5", "5 4,5 6 4c5 4h5 4q5 4c5 ;5 4q5",
+    "5 4c5 4;5 4q5 `5 4q5 K", "6 4c5 4t5 4q5 K 4q5", "6 4c5 4C5 4t5 4t5 4q5 4Q5", "7 4c5 4t5 4t5 4q5 K", "7 4c5 4t5 4q5 4v5 4q5 K",
+    "5 4c5 4v5 4q5 K", "6 4c5 4v5 4q5 K", "7 4-5 4q5 K 4q5 4c5 4v5 4q5", "7 4c5 4-5 4q5 4Q5 K", "6 4c5 4-5 4q5 4h5 4q5 K",
+    "7 4=5 4c5 4-5 4q5 4=5 4q5 K", "4x 4c6 4-6 4q6 4Q6 K", "4x 4=6 4c6 4-6 4q6 4=6 K", "4y 4c6 4-6 4q6 4h6 4q6 K",
+    "6 4-5 4c5 4h5 4q5 K 4q5", "6 4;5 4q5 4c5 4;5 4q5 4c5 4;5 4q5", "7 4v5 4q5 4c5 4v5 4q5 4c5 4v5 4Q5 K", "7 4c5 4;5 4q5 `5 4q5 K",
+    "7 4c5 4>5 4q5 4,5 4q5 4@5 4_5 4q5", "5 4!5 4c5 6 4q5 K 7 4q5 K 4v5 4q5", "5 4=5 4c5 6 4q5 4-5 4q5 K 4q5", "6 4!5 4c5 5 4h5 4q5 K",
+    "7 4!5 4c5 4h5 4q5 K", "7 4c5 4!5 4q5 4-5 4c5 K 4q5", "6 4y 4c5 4c6 4P 4q5 K G2", "4P G2 4c5 4c6 4P G2 G3", "5 4c5 4P 4q5 K",
+    "6 4c5 4P 4q5 4C5 4P 4Q5", "4y 4c6 4P 4q6 K 4c6 4.6 4q6", "4x 4c6 4P 4q6 K", "4y 4.6 4q6 4c6 `6 4q6 `6 4q6",
+    "4y 4@6 4c6 `6 4q6 4c6 `6 4q6 K", "4y 4!6 4c6 4h6 4q6 4c6 ;6 4q6", "4x 4v6 4q6 4c6 4v6 4q6 4c6 4v6 4q6 K", "4x 4c6 4;6 4q6 `6 K 4q6",
+    "4y 4c6 4v6 4q6 K", "4x 4-6 4c6 K 4q6 4c6 4y 4q6 K 4q6", "4y 4-6 4c6 4h6 4q6 K 4q6", "4y 4;6 4q6 4c6 4;6 4q6 4c6 4;6 4q6",
+    "4x 4c6 4>6 4q6 4c6 4,6 4q6 4@6 4_6 K", "4y 4c6 4>6 4q6 4c6 4,6 4q6 4c6 4@6 4_6 4q6", "4y 4!6 4x 4c6 4h6 4q6 K",
+    "4ca 4ta 4qa 4;a 4qa 4ha 4qa", "4!a 4ca 4ha 4qa 4ha K", "4w 4!a 4ca 4ha 4qa 4ca 4ha K", "4w 4.a 4qa 4ca 4w 4.a 4qa 4ca 4w 4.a 4qa",
+    "4!a 4ca 4w 4ha 4qa K",
+    "4!a P2 4.a G2 P2 K G2", "4!a P3 G3 4.a G3 K", "4!a X K 4qa 3w K", "X 4ca 4!a 4qa K 3w K", "M 4!a K 4qa",
+    "L 4[a 4]a 4.a 4qa 4ca 4.a 4qa K", "4!a p K 4qa", "4=a 4ca p 4.a 4qa K", "4ta 4ca 4ta 4qa", "4t1 4t2 4t3 4t4 4t5 G2 K",
+};
+static const char *const sleep_starts[] = {
+    "3w ^ 3v 3o 4o 3k", "3w 3v 3o 4o ^ 3k 3K", "^ 3v 3o 4o 3k", "3w 4o 3o 3v ^ 3K 3k", "3v 4o 3o 3k", "^ | 3F 4|", "3w | 3F 4|",
+    "3w | 3F 4| K", "30 [a ]a 3[a 4[a 4]a", "3[a [a ]a ^", "^ | 3F", "3| 30 ^ [a ]a", "4[a 4]a 3[a 3t 3f", "3[b 3[a 4|", "^ [a ]a [b ]b 3k",
+};
+static const char *const sleep_scenes[] = {
+    "30 !a K 3s K qa Qa 30 K", "30 3k !a K 3s K 30 K", "30 3k !a 3s K 3t K 30 K", "30 !a 3s K ca K qa 30 K Ca",
+    "3s ca Ca !a qa Qa K 30 K qa !a qa K", "3s ca Ca -a K qa Qa 30 qa K qa", "30 -a K 3s K ca K qa 30 K qa", "30 -a ca 3s qa 30 qa K",
+    "3s ca !a qa 3s 30 qa Qa K", "30 !a X K qa 30 K", "!a X ca K 3w ~a qa K", "X !a qa K 3w K !a qa", "30 !a K X K 3w K",
+    "X ca Ca -a K qa Qa 3w K qa", "30 3k -a K X K 3w K", "3s 3t ca cb !a !b qa K 3t K 3t K qa 30 K", "3s 3| ca Ca !a !b qa qb K 3| K 30 K",
+    "3s 3m ca !a qa 3m K !a qa 30", "30 !a !b 3s K 3t K 3? K 3? K 30 K", "30 !a !b K 3s 3| K 3| K 30 K", "3s 3t ca -a K qa 3t K qa 3t K 30",
+    "3? ca !a qa K 3? ca !a qa K 30 K", "3s 3t ca Ca !a qa Qa 3t qa Qa !a qa Qa K 30", "33 3t ca !a qa 34 ca !a qa K 30 K",
+    "34 3t ca !a qa 33 ca !a qa K 30 K",
+    "30 !a 3s ca ~a qa 30 ~a qa", "3s !a ca 30 ~a qa Qa K", "30 !a 3s =a 30 ca ~a qa K", "3s !a =a 30 ca ~a qa", "3s =a ~a 30 ca ~a qa",
+    "3s !a 30 ~a qa K", "3s =a 30 ca Ca ~a Qa !a 3s Ca ~a Qa 30 Qa", "30 =a 3s !a 30 ca ~a qa ca ~a qa", "30 !a 3s ~a ~a 30 ca ~a qa K",
+    "33 =a !a 30 ca ~a qa", "34 =a !a 30 ca ~a qa", "30 !a 33 =a 30 ca ~a qa K", "30 !a X =a 3w Ca ~a Qa",
+    "30 !a !b 3s =a =b 30 ca cb ~a ~b qa qb", "33 !a ~a 30 ca ~a qa", "X !a 3w ca ~a qa", "30 !a X ~a 3w ca ~a qa",
+    "30 !a X =a 3w ca ~a qa", "33 3t =a !a 30 ca ~a qa", "34 3t !a =a 30 ca ~a qa", "30 !a 33 ~a 30 ca ~a qa", "30 !a 34 =a 30 ca ~a qa",
+    "30 ca =a 3s !a 30 qa ~a qa",
+    "30 3!a K 3s K 3qa 30 K", "30 3k 3!a K 3s K 30 K", "3s 3ca 3!a 3qa 3Qa K 30 K 3qa 3!a 3qa K", "3s 3ca 3Ca ma K 3qa 3Qa 30 3qa K 3qa",
+    "30 3!a 3!b 3s K 3f K 3f K 30 K", "31 3f 3ca 3cb 3!a 3!b 3qa K 30", "33 3f 3ca 3cb 3!a 3!b 3qa 3Qa K 30",
+    "31 3f 3k ma mb K 3qa 3f K 30", "3s 3f 3ca 3Ca 3!a 3qa 3Qa K 3f 3!a 3qa 30 K", "3s 3ca 3cb ma mb 3f K 3qa 3f K 3qa 30",
+    "30 3!a 3s 3ca K 30 K 3qa", "3!a X K 3qa 3w K", "3s 3f 3!a 3!b 3qa K 3f K 3f K 30 K", "3? 3ca 3!a 3qa K 3? 3ca 3!a 3qa K 30",
+    "31 3f 3ca 3!a 3qa 33 3ca 3!a 3qa 34 3ca 3!a 3qa 30 K", "31 3m 3ca ma K 33 3ca K 34 3ca K 3qa 30 K",
+    "34 3f 3ca 3!a 3qa K 3f 3!a 3qa 30", "3s 3ca 3=a 3qa 3!a 3qa 30 3!a 3qa 3=a K", "3(a ma 3s 3ca K 30 K 3[a K 3qa",
+    "30 3k ma K 3s 3f K 3f K 30 K", "ma 3ca 3s 3qa 30 3qa K",
+    "30 4!a K 3s K 4qa 30 K", "30 3k 4!a K 3s 3t K 3t K 30 K", "3s 3t 4ca 4Ca 4!a 4qa 4Qa K 3t 4!a 4qa 30 K",
+    "3s 3t 4ca 4-a K 4qa 3t K 4qa 30 K 4qa", "30 4!a 4!b 3s 3t K 3t K 3t K 4qa 30 K", "3s 3t 4ca 4!a 4qa 30 4qa K 4!a 4qa",
+    "4!a X K 4qa 3w K", "3s 3| 4c1 4.1 4.3 4.5 4.6 G2 G3 K 30 K", "30 4!a 3s 3t 4ca K 4qa 30 K", "3s 4ca 4Ca 4!a 4qa 4Qa 30 K",
+    "33 3t 4ca 4!a 4qa 34 4ca 4!a 4qa K 30 K", "X 3t 4ca 4!a 4qa K 3w K 4qa", "31 4ca 4!a 4qa K 3| 4ca 4!a 4qa 30",
+    "3s 3t 4c1 4!1 4q1 4!5 4q5 K 30", "3s 3t 4c3 4!3 4q3 4!6 4q6 K 30", "1 3s 3t 4c1 4!2 4q1 4-2 K 4q1 30 K",
+    "1 3s 3t 4c3 4!4 4q3 4-4 K 4q3 30 K", "6 3s 3t 4c5 4;5 `5 4q5 30", "4x 3s 4c6 4v6 4q6 K 30", "7 4[5 4]5 33 4c5 4!5 4q5 4Q5 K 30",
+    "7 34 4c5 4!5 4q5 4-5 4c5 K 4q5 30", "7 3s 4c5 4!5 4q5 4c5 4!5 4q5 30 K", "4x 4[6 4]6 33 4c6 4!6 4q6 4Q6 K 30",
+    "4x 34 4c6 4!6 4q6 4-6 4c6 K 4q6 30", "4x 3s 4c6 4!6 4q6 4c6 4!6 4q6 30 K", "X 7 4c5 4!5 4q5 K 3w K", "X 4x 4c6 4!6 4q6 K 3w K",
+    "7 3s 3t ca 4c5 4v5 4q5 K 30 K", "33 3t 4ca 4!a 4qa 3t 4ca 4!a 4qa 3t 4ca 4!a 4qa K 30",
+    "34 3t 4ca 4!a 4qa 3t 4ca 4!a 4qa 3t 4ca 4!a 4qa K 30", "4-a 4ca 3s 4qa 30 4qa K 4qa", "3s 4-a 4ca 3? 4qa 3t 4qa 30 4qa K",
+    "3s 3t 4!a 4!b 4qa 30 4qa K",
+    "30 K 31 K 33 K 34 K 30 K", "3? K 3? K 3? K 30 K", "30 | 3F 4| K 3s K 3| K 3| K 30 K", "P2 P3 3? K G2 G3 30 K G2",
+    "3s K 3t K 3f K 3| K 30 K", "33 P2 P3 K G2 G3 3| K G2 30 K", "34 P2 P3 K G2 G3 3| K G2 30 K", "31 P2 P3 K G2 G3 3| K G2 30 K",
+    "3s GD 3| GD 3r 3r K 30", "3m 3r 3m 3r GD", "3? 3r 3? 3r K 30 3r", "3s 3r 30 3r 3? 3r", "3? 3r K 30", "X 3r K 3w 3r K",
+    "K X K P2 K 3w K G2 G3", "3s !a 3!a 4!a G2 G3 K 30 K", "30 !a 3!a 4!a K 3s K P2 K G2 30 K", "3s -a ma 4-a K G2 30 K G2",
+    "30 !a !b 3!a 3!b 4!a 4!b K 3s 3| K 3| K 30 K G3", "M 3s K 30 K", "30 !a M K 3s K 30 3w K", "30 3k 3K !a 3!a 4!a K 3s 3| K 30 K",
+    "3s 3k 3K !a 3!a 4!a G2 G3 K 30 K G2", "3s 3| 3k 3K -a ma 4-a K G2 G3 30 K", "L 3s K 3r 30 K", "L 3| K 3s K 30 K",
+    "L 3m 3r 3t 3s K X 3w", "30 !a 3!a 4!a L 3s 3| K 3t K X K 3w K",
+};
+static const char *const loose_lines[] = {
+    "4r", "4.a", "4.b", "4!a", "4=a", "4-a", "4ca", "4Ca", "4qa", "4{a", "4}a", "4e", "4w", "4v5", "4v6", "4;5", "4;6", "`5", "`6", "3?",
+    "3?", "3m", "3t", "3f", "3!a", "3!b", "3[a", "3r", "3ca", "3qa", "!a", "qa", "ca", "4|",
+};
 static const char *const long_scenes[] = {"G9 G9 G9 G9 G9 G9 G9 G9", "G9 G9 G9 G9 P9 P9 P9 O", "GC G5 G9 G9 V K"};
 
 static const char *scene = "", *scene_after = ""; // what is left of it; what comes then
 static int scene_command, scene_high, scene_fans[2], scene_channels[2], scene_vh, scene_tables[2], scene_thresholds[2] = {1, 1};
-static int scene_zones[2];
-static struct window scene_windows[2];
+static int scene_zones[2], scene_sleep, scene_sleeps; // scene_sleeps: if it is one of sleep states
+static struct window scene_windows[2], scene_limits[2];
 
 static int command_at(const char *digit)
 {
@@ -1039,11 +1338,11 @@ static void table_line_of(const char *at)
     }
 }
 
+static int zone_at(const char *at) { return *at >= '1' && *at <= '6' ? *at - '1' : scene_zones[*at == 'b']; }
+
 static void zone_line_of(const char *at)
 {
-    static int last[6]; // the reading that the zone was given last
-    int second = at[1] == 'b', zone = at[1] >= '1' && at[1] <= '6' ? at[1] - '1' : scene_zones[second];
-    int on = boost(zone), off = boost_end(zone), n = last[zone], whole;
+    int zone = zone_at(at + 1), on = boost(zone), off = boost_end(zone), n = given[zone], whole;
     switch (*at) {
     case 'I': n = on; break;
     case 'k': n = on - a_little(); break;
@@ -1057,14 +1356,12 @@ static void zone_line_of(const char *at)
     case '#': refused_temperature_line(zone); break;
     case '&': read_own(one_in(2) ? whole_register(zone) : half_register(zone)); break;
     case ';':
-        whole = one_in(8) ? below(256) : n == MISSING ? 0x80 : floor_degrees(n) + one_in(4);
+        whole = one_in(n == MISSING ? 2 : 8) ? below(256) : n == MISSING ? 0x80 : floor_degrees(n) + one_in(4);
         write_own(whole_register(zone), whole);
         break;
     case '`': write_own(half_register(zone), below(256)); break;
     }
     if (len == 0) give(zone, n);
-    if (n != MISSING) n = within_reach(n);
-    last[zone] = n;
 }
 
 static void source_line_of(const char *at)
@@ -1078,6 +1375,86 @@ static void source_line_of(const char *at)
     case '7': write_own(0x31, source | 0x01); break;
     case '8': write_own(0x35, below(16)); break;
     case '9': write_own(0x35, 0xF0 | below(16)); break;
+    }
+}
+
+static void clear_zone_bit(int zone, int a)
+{
+    int bit = zone_bit(zone);
+    write_own(a, one_in(3) ? 0xFF : one_in(8) ? ~bit : bit);
+}
+
+static void limit_line_of(const char *at)
+{
+    static const int twos[] = {0x04, 0x08, 0x0C}, ways[] = {0x00, 0x01, 0x01, 0x02, 0x02, 0x03, 0x10, 0x10, 0x11, 0x12, 0x13};
+    int zone = zone_at(at + 1), a = limit_register(zone), low = zone_low(zone), high = zone_high(zone), beside = beside_limit(zone), n;
+    const struct window *limits = &scene_limits[at[1] == 'b'];
+    switch (*at) {
+    case '[': write_own(a, limits->low); break;
+    case ']': write_own(a + 1, limits->high); break;
+    case '{': write_own(a, limit_at_reading(zone)); break;
+    case '}': write_own(a + 1, limit_at_reading(zone)); break;
+    case '(': write_own(a, 0x80); break;
+    case ')': write_own(a + 1, 0x7F); break;
+    case '@': give(zone, high); break;
+    case '<': give(zone, high - beside); break;
+    case '>': give(zone, high + beside); break;
+    case '_': give(zone, low); break;
+    case ',': give(zone, low - beside); break;
+    case '\'': give(zone, low + beside); break;
+    case '=': give(zone, reading_by_limits(zone, 1)); break;
+    case '!': give(zone, reading_by_limits(zone, 0)); break;
+    case '.': give(zone, limit_corner(zone)); break;
+    case '-': give(zone, MISSING); break;
+    case 't': temperature(zone, limit_corner(zone)); refused = zone == 5; break;
+    case ';': n = degrees_by_limits(zone); write_own(whole_register(zone), n); break;
+    case 'v': n = degrees_by_limits(zone); zone_by_volt(zone, n == -128 ? MISSING : DEGREE * n); break;
+    case 'h': n = half_bit(given[zone]) != one_in(4); write_own(half_register(zone), n << 7 | below(128)); break;
+    case 'c': clear_zone_bit(zone, 0x40); break;
+    case 'C': clear_zone_bit(zone, 0x48); break;
+    case 'q': read_own(0x40); break;
+    case 'Q': read_own(0x48); break;
+    case 'r': read_own(one_in(3) ? between(0x40, 0x4F) : between(0x78, 0x7F)); break;
+    case '|': write_zone_windows(0x0F); break;
+    case 'o': write_zone_windows(zone_bit(scene_zones[0]) | zone_bit(scene_zones[1])); break;
+    case 'P': write_zones(); break;
+    case 'w': write_own(0x31, (held[0x31] & 0x0C) | ways[below(11)]); break;
+    case 'e': write_own(0x31, held[0x31] ^ twos[below(3)]); break;
+    case 'n': write_own(0x31, held[0x31] & ~0x0C); break;
+    case 'x': write_own(0x31, held[0x31] | 0x02); break;
+    case 'y': write_own(0x31, held[0x31] & ~0x02); break;
+    }
+}
+
+static void sleep_line_of(const char *at)
+{
+    int fan = scene_fans[at[1] == 'b'], bit = 1 << fan, mask, other = one_in(8), a;
+    switch (*at) {
+    case '0': write_sleep_state(S0); break;
+    case '1': write_sleep_state(S1); break;
+    case '3': write_sleep_state(S3); break;
+    case '4': write_sleep_state(S4_5); break;
+    case 's': write_sleep_state(scene_sleep); break;
+    case '?': write_sleep_state(below(4)); break;
+    case 'w': wake(); break;
+    case 'f': mask = some_mask(); write_own((scene_sleep == S1) != other ? 0xE6 : 0xE8, mask); break;
+    case 't': mask = some_mask(); write_own((scene_sleep == S3) != other ? 0xE9 : 0xEB, mask); break;
+    case 'm': a = between(0xE5, 0xED); write_own(a, some_mask()); break;
+    case '|': write_masks(); break;
+    case 'r': read_own(one_in(2) ? 0xE4 : between(0xE5, 0xED)); break;
+    case '[': write_fan_limit(fan, some_fan_limit()); break;
+    case '(': write_fan_limit(fan, 0x3FFF); break;
+    case 'k': clear_all(0xF2); break;
+    case 'K': clear_all(0xF3); break;
+    case 'v': write_windows(1 << scene_channels[0] | 1 << scene_channels[1]); break;
+    case 'F': write_fan_limits(0x0F); break;
+    case 'o': write_fan_limits(1 << scene_fans[0] | 1 << scene_fans[1]); break;
+    case '!': fan_event(fan); number(count_above(fan)); break;
+    case '=': fan_event(fan); number(one_in(2) ? fan_limit(fan) : below(fan_limit(fan) + 1)); break;
+    case 'c': write_own(0x47, one_in(3) ? 0xFF : bit); break;
+    case 'C': write_own(0x4F, one_in(3) ? 0xFF : bit); break;
+    case 'q': read_own(0x47); break;
+    case 'Q': read_own(0x4F); break;
     }
 }
 
@@ -1139,9 +1516,11 @@ static void line_of(const char *at)
     case '0': write_own(0xBC, below(32) << 3); break;
     case 'v': write_own(0xBC, below(256)); break;
     case 'r': read_own(0xBC); break;
-    case '|': write_windows(); break;
+    case '|': write_windows(0xFFFF); break;
     case '+': line_of(between_readings[below(sizeof between_readings / sizeof between_readings[0])]); break;
     case 'p': line_of(between_ticks[below(sizeof between_ticks / sizeof between_ticks[0])]); break;
+    case '3': sleep_line_of(at + 1); break;
+    case '4': limit_line_of(at + 1); break;
     default:
         if (strchr("1256789", *at)) source_line_of(at);
         else if (strchr("IkJgozj/t#&;`", *at)) zone_line_of(at);
@@ -1170,6 +1549,7 @@ static void begin_scene(const char *const *from, int n)
     scene_fans[1] = (scene_fans[0] + between(1, 3)) % 4;
     scene_zones[0] = below(5);
     scene_zones[1] = (scene_zones[0] + between(1, 4)) % 5;
+    scene_sleeps = 0;
 }
 
 #define BEGIN(list) begin_scene(list, sizeof list / sizeof list[0])
@@ -1229,19 +1609,88 @@ static void begin_zone_scene(void)
     scene = zone_starts[below(sizeof zone_starts / sizeof zone_starts[0])];
 }
 
+// every other time two zones that share their limits
+static void choose_limit_zones(void)
+{
+    scene_zones[0] = one_in(4) ? between(4, 5) : below(6);
+    if (scene_zones[0] < 4 && one_in(2)) scene_zones[1] = scene_zones[0] ^ 1;
+    else scene_zones[1] = (scene_zones[0] + between(1, 5)) % 6;
+    for (int i = 0; i < 2; i++) scene_limits[i] = some_zone_window();
+}
+
+// The limits most often stay those of the scenes before, once the zone is watched.
+static void begin_limit_scene(void)
+{
+    int stay;
+    BEGIN(limit_scenes);
+    choose_limit_zones();
+    stay = zone_watched(scene_zones[0]) && !one_in(3);
+    if (stay && one_in(2)) return;
+    scene_after = scene;
+    scene = stay ? "4w" : ONE_OF(limit_starts);
+}
+
+// The limits are written before the first scene, and now and then again.
+static void begin_sleep_scene(void)
+{
+    static int written;
+    BEGIN(sleep_scenes);
+    choose_limit_zones();
+    if (!one_in(3)) scene_zones[0] = below(4); // the others are never masked
+    scene_sleeps = 1;
+    if (strstr(scene, "3f")) scene_sleep = one_in(5) ? S4_5 : one_in(2) ? S1 : S3; // S4/5 asks no mask of the fans
+    else scene_sleep = one_in(6) ? S1 : one_in(2) ? S3 : S4_5;                     // S1 masks nothing else
+    if (written && !one_in(3)) return;
+    written = 1;
+    scene_after = scene;
+    scene = ONE_OF(sleep_starts);
+    scene_vh = between(1, 7);
+    scene_channels[0] = one_in(2) ? between(11, 13) : one_in(2) ? 10 + 4 * below(2) : one_in(4) ? 15 : below(16);
+    scene_channels[1] = (scene_channels[0] + between(1, 15)) % 16;
+    for (int i = 0; i < 2; i++) scene_windows[i] = some_window();
+}
+
 static int field_at(int at) { return strtol(line + at, 0, 16); }
 
 // of the lock-marked registers, those that a scene asks for
 static int lock_holds(int a) { return held[0xE3] & 0x02 && (a == 0x31 || a == 0x35 || a == 0xE3); }
 
+static void follow_byte(int a, int b)
+{
+    int zone = a == 0x52 || a == 0x21 || a == 0x20 ? 4 : 5, *n = &given[zone];
+    if (a == 0x52 || a == 0x21 || a == 0x53 || a == 0x23) {
+        if (open_to_bus(zone)) *n = b == 0x80 ? MISSING : DEGREE * signed_byte(b);
+    } else if (a == 0x20 || a == 0x22) {
+        if (open_to_bus(zone) && *n != MISSING) *n = DEGREE * floor_degrees(*n) + HALF * (b >> 7);
+    } else if (!lock_holds(a)) held[a] = b;
+}
+
 static void follow_write(void)
 {
+    int command;
     line[len] = 0;
     if (field_at(2) != latched) return;
-    if (line[0] == 'W') {
-        if (!lock_holds(field_at(5))) held[field_at(5)] = field_at(8);
-    } else if (field_at(5) == 0xF9 && field_at(8) == 32)
-        for (int i = 0; i < 32; i++) held[0x90 + i] = field_at(11 + 3 * i);
+    command = field_at(5) - 0xF2;
+    if (line[0] == 'W') follow_byte(field_at(5), field_at(8));
+    else if (command >= 0 && command < 12 && field_at(8) == counts[command])
+        for (int i = 0; i < counts[command]; i++) follow_byte(firsts[command] + i, field_at(11 + 3 * i));
+}
+
+// a T, U or V, in range or not
+static void follow_reading(void)
+{
+    char *end;
+    int i, n;
+    line[len] = 0;
+    i = strtol(line + 1, &end, 10);
+    n = strcmp(end, "\t-") == 0 ? MISSING : strtol(end, 0, 10);
+    if (line[0] == 'V') {
+        if (n < 0 || (n > 255 && n != MISSING) || (i != 11 && i != 15)) return;
+        if (fed(i == 11 ? 4 : 5)) given[i == 11 ? 4 : 5] = n == MISSING || n == 0 ? MISSING : DEGREE * (n - 128);
+    } else if (i >= 1 && i <= 5 && !(i == 5 && held[0x31] & 0x11)) {
+        if (n != MISSING && line[0] == 'T') n *= HALF;
+        if (n == MISSING || n == within_reach(n)) given[i - 1] = n;
+    }
 }
 
 // asks only for the offsets, and for the numbers that setup_line has out of range now and then
@@ -1275,7 +1724,8 @@ static void follow(void)
         return;
     }
     if (line[0] == 'A' && line[2] >= '0' && line[2] <= '2') level = line[2] - '0';
-    if (line[0] == 'X') held[0xE3] &= ~0x02;
+    if (line[0] == 'X') held[0xE3] = (held[0xE3] & ~0x02) | 0x04, held[0xE4] = S4_5;
+    if (strchr("TUV", line[0])) follow_reading();
     if (!latched && strchr("WRGP", line[0]) && line[2] == '2' && line[3] >= 'C' && line[3] <= 'F') latched = slave[level];
     if (latched && strchr("WP", line[0])) follow_write();
     begun = 1;
@@ -1301,21 +1751,35 @@ static void damage(void)
     }
 }
 
-// with_scenes: block reads and writes, reads of fan counts, voltages at the corners of their limits, and temperatures at the corners of the
-// tables' thresholds, of the boosts and of their own range stand between the events, in a few sessions so many block lines that neither
-// they nor their answers fit into 16 KiB, in others a setup made for the tables first, before it now and then some that are refused
+static void guess_power_on(void)
+{
+    static const int masks[] = {0xFF, 0x0F, 0xFF, 0x0F, 0x07, 0xFF, 0x07, 0xFF, 0x3F};
+    for (int i = 0; i < 6; i++) given[i] = MISSING;
+    for (int i = 0; i < 4; i++) held[0x78 + 2 * i] = 0x80, held[0x79 + 2 * i] = 0x7F;
+    for (int i = 0; i < 16; i++) held[0x91 + 2 * i] = 0xFF;
+    for (int i = 0; i < 4; i++) held[0xB4 + 2 * i] = 0xFC, held[0xB5 + 2 * i] = 0xFF;
+    for (int i = 0; i < 9; i++) held[0xE5 + i] = masks[i];
+    held[0x35] = 0x30;
+}
+
+// with_scenes: block reads and writes, reads of fan counts, voltages and temperatures at the corners of their limits, sleep states and
+// masks, and temperatures at the corners of the tables' thresholds, of the boosts and of their own range stand between the events, in a few
+// sessions so many block lines that neither they nor their answers fit into 16 KiB, in others a setup made for the tables first, before it
+// now and then some that are refused; from a sleep state a session soon comes back to S0
 static void session(int with_scenes)
 {
-    int lines = between(1, 120), bad = below(4) * 5, begin = 0, more = 0, tables = 0, zones = 0, setup_due = 0, refused_setups = 0;
-    for (int i = 0; i < 16; i++) held[0x91 + 2 * i] = 0xFF;
-    held[0x35] = 0x30;
+    int lines = between(1, 120), bad = below(4) * 5, begin = 0, more = 0, tables = 0, limits = 0, zones = 0, setup_due = 0;
+    int refused_setups = 0, waking = 0;
+    guess_power_on();
     guess_plain_setup();
     if (with_scenes) {
         // so long and so dense that each kind of scene has its share beside the others
-        lines += 3 * lines / 2;
+        lines += 5 * lines / 2;
+        waking = one_in(5) ? 15 : 3;
         begin = one_in(2) ? between(40, 95) : 18;
         if ((more = one_in(30))) lines = between(200, 900), begin = 95;
         else if ((tables = one_in(3))) begin = between(60, 95);
+        else if ((limits = one_in(3))) begin = between(60, 95);
         else if (one_in(3)) BEGIN(first_scenes);
         else if ((zones = one_in(3))) BEGIN(first_zone_scenes);
         else if (one_in(2)) BEGIN(first_fan_scenes);
@@ -1329,10 +1793,13 @@ static void session(int with_scenes)
         len = refused = 0;
         if (!*scene && begin && !setup_first && below(100) < begin) {
             if (more) BEGIN(long_scenes);
-            else if (tables ? one_in(2) : one_in(5)) begin_table_scene();
+            else if (limits ? !one_in(4) : one_in(6)) {
+                if (one_in(2)) begin_sleep_scene();
+                else begin_limit_scene();
+            } else if (tables ? one_in(2) : one_in(5)) begin_table_scene();
             else if (one_in(any_boost() ? 2 : 3)) begin_zone_scene();
             else if (one_in(3)) begin_volt_scene();
-            else if (one_in(2)) BEGIN(scenes);
+            else if (one_in(3)) BEGIN(scenes);
             else BEGIN(fan_scenes);
         }
         if (setup_first) {
@@ -1345,8 +1812,10 @@ static void session(int with_scenes)
         } else if ((!with_scenes && i == 0 && one_in(2)) || one_in(60)) {
             if (with_scenes) line_of("S");
             else setup_line();
-        } else if ((*scene || due_len) && !one_in(8)) scene_line();
+        } else if (with_scenes && sleep_state() != S0 && !due_len && one_in(*scene && scene_sleeps ? 40 : waking)) line_of("3w");
+        else if ((*scene || due_len) && !one_in(8)) scene_line();
         else if (with_scenes && one_in(8)) line_of(one_in(2) ? "~a" : one_in(2) ? ".a" : ".b");
+        else if (with_scenes && one_in(8)) line_of(ONE_OF(loose_lines));
         else if (with_scenes) some_event_line(below(20));
         else event_line(below(20));
         if (bad && below(100) < bad) damage();
