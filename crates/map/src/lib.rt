@@ -1,4 +1,6 @@
 // The register map of the LM94: what stands at each of its 256 addresses, and the fixed blocks.
+#![tactic(auto)]
+
 ghost use Rattle.std.specs.Prelude.{◌≡◌};
 ghost use Rattle.map.specs.Map.{default_of, writable_of, lock_marked, home_of};
 ghost use Rattle.map.specs.Bits.{is_set};

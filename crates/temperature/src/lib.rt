@@ -1,4 +1,6 @@
 // A zone's temperature: how it is held, how an event states it, and how its two registers show it.
+#![tactic(auto)]
+
 ghost use Rattle.std.specs.Prelude.{◌≡◌};
 ghost use Rattle.temperature.specs.Temperature.{whole_of, is_odd, whole_byte, half_set, sixteenths_of, reading_of, count_reading, with_half, hotter_of};
 ghost use Rattle.temperature.specs.Raised.{raised};

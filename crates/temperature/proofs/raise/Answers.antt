@@ -5,8 +5,7 @@ use native.Mathlib.Omega.{arith}
 use mathlib.Core.Path.{◌≡◌}
 use lib.IntN.{pos, ◌+ℤ◌}
 use Rattle.temperature.specs.Raised.{raised, raised_is, raised_lt}
-use Rattle.temperature.proofs.raise.Statement.{statement}
-use Rattle.temperature.proofs.raise.Tie as tie
+use Rattle.temperature.proofs.raise.Goals as goal
 
 module _ (c : tie.Start) where
   z16 : SFits w16 c.args.z
@@ -21,17 +20,5 @@ module _ (c : tie.Start) where
   sum32 : SFits w32 (pos (raised c.args.z))
   sum32 = omega (arith, raised_lt c.args.z (omega (arith, z16)))
 
-cast-result : tie.Need-overflow-cast-result
-cast-result c = simp (to_z-of_z, z16 c) (z32 c)
-
-add-result : tie.Need-overflow-add-result
-add-result c = simp (to_z-of_z, z16 c, z32 c, sum c) (sum32 c)
-
-cast-result-2 : tie.Need-overflow-cast-result-2
-cast-result-2 c = simp (to_z-of_z, z16 c, z32 c, sum c, sum32 c) (tt, omega (arith, sum32 c))
-
-returns : tie.Need-returns
+pub returns : goal.returns
 returns c = simp (to_z-of_z, z16 c, z32 c, sum c, sum32 c)
-
-pub raise-spec : {M : Type 1} → statement M
-raise-spec = tie.close (tie.spec cast-result add-result cast-result-2 returns)

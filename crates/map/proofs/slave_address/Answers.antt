@@ -1,0 +1,15 @@
+use borrow.Author.Tests.{eq-eqb, ne_eqb}
+use Rattle.map.specs.Slave.{slave_address}
+use Rattle.map.proofs.slave_address.Goals as goal
+
+pub returns-in-0 : goal.returns-in-0
+unfolding slave_address
+returns-in-0 c = rw (eq-eqb _ _ c.in-0.is)
+
+pub returns-in-1 : goal.returns-in-1
+unfolding slave_address
+returns-in-1 c = rw c.in-1.is
+
+pub returns-in_default : goal.returns-in_default
+unfolding slave_address
+returns-in_default c = rw (ne_eqb _ 0 c.in_default.in_default-own.rest.0.1, ne_eqb _ 1 c.in_default.in_default-own.rest.1)
