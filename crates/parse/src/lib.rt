@@ -1,4 +1,6 @@
 // A line of text as an event (document 01, "Lines and refusals"; document 02, Q-1 and Q-7). The ranges of its numbers are the event's own business.
+#![tactic(auto)]
+
 ghost use Rattle.std.specs.Prelude.{◌≡◌, ◌++◌, ◌≤◌, min, pos, neg_ℤ, length, drop};
 ghost use Rattle.text.specs.Number.{saturated};
 ghost use Rattle.parse.specs.Parse.{number_at, letter_of, index_of, spelled_stated, count_of, pair_of, pin_line, alone_line, two_by, two_of, three_by, three_of, write_line, read_line, read_block_line, is_data, write_block_line, event_by, event_of, data_by, data_of};
