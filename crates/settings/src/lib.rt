@@ -1,4 +1,6 @@
 // The setup that an S line carries (document 01, "Setup").
+#![tactic(auto)]
+
 ghost use Rattle.std.specs.Prelude.{◌≡◌, ◌+◌, ◌≤◌, ◌<◌, length, drop};
 ghost use Rattle.laws.specs.Tab.{tab};
 ghost use Rattle.laws.specs.Every.{every};
@@ -15,7 +17,7 @@ use text::Number;
 mod places;
 
 // One of the 59 numbers, as it is spelled.
-#[derive(Drop)]
+#[derive(Clone, Copy)]
 pub struct Entry {
     pub number: Number,
 }
