@@ -14,28 +14,28 @@ use state::Chip;
 use text::{BLOCK_ROOM, ROOM};
 
 // A chip, and whether any line has been taken.
-#[derive(Drop)]
+#[derive(Clone, Copy)]
 pub struct Session {
     pub chip: Chip,
     pub begun: bool,
 }
 
 // 0 or a line's refusal, and how many bytes of answer it wrote.
-#[derive(Drop)]
+#[derive(Clone, Copy)]
 pub struct Reply {
     pub refusal: u8,
     pub length: usize,
 }
 
 // The session after a line, and its reply.
-#[derive(Drop)]
+#[derive(Clone, Copy)]
 pub struct Taken {
     pub session: Session,
     pub reply: Reply,
 }
 
 // What a line asks for. The setup itself is not in here: it is large, and most lines have none.
-#[derive(Drop)]
+#[derive(Clone, Copy)]
 pub enum Asked {
     Setup,
     Refused(u8),

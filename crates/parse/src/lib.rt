@@ -18,28 +18,28 @@ const TAB: u8 = 9;
 const DATA: usize = 4;
 
 // What a line says: nothing that is spelled right, or an event.
-#[derive(Drop)]
+#[derive(Clone, Copy)]
 pub enum Parsed {
     Wrong,
     Fine(Event),
 }
 
 // An index and a value, both spelled right.
-#[derive(Drop)]
+#[derive(Clone, Copy)]
 pub enum Pair {
     Wrong,
     Of(Number, Number),
 }
 
 // Two bus fields, both spelled right.
-#[derive(Drop)]
+#[derive(Clone, Copy)]
 pub enum Two {
     Wrong,
     Of(u8, u8),
 }
 
 // Three.
-#[derive(Drop)]
+#[derive(Clone, Copy)]
 pub enum Three {
     Wrong,
     Of(u8, u8, u8),

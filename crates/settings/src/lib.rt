@@ -23,7 +23,7 @@ pub struct Entry {
 }
 
 // What a number may be.
-#[derive(Drop)]
+#[derive(Clone, Copy)]
 pub struct Range {
     // The largest.
     pub most: u16,
@@ -34,7 +34,7 @@ pub struct Range {
 }
 
 // The refusal of an S line by itself, or 0, and its setup; of a refused line that without a setup.
-#[derive(Drop)]
+#[derive(Clone, Copy)]
 pub struct Settings {
     pub refusal: u8,
     pub setup: Setup,
