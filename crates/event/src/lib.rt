@@ -1,5 +1,7 @@
 // The events of the chip: each is taken, or refused by its number (document 01, "Events" and "Lines and refusals"; document 02, Q-1, Q-7 and
 // Q-12).
+#![tactic(auto)]
+
 ghost use Rattle.std.specs.Prelude.{◌≡◌, true, eqb, length};
 ghost use Rattle.event.specs.Event.{index_in, reading_within, stated_in, count_in, level_in, level_of, temperature_in, voltage_in, fan_in, hot_in, address_in, event_in, refusal_of, stepped_chip};
 ghost use Rattle.temperature.specs.Temperature.{stated_reading};
@@ -12,7 +14,7 @@ use state::{Chip, Count, Gauge, Zone};
 use temperature::{HALF, Reading, Stated};
 
 // An event, with the numbers as they came in. The bytes of a block write are lent beside it, and their count is how many are lent.
-#[derive(Drop)]
+#[derive(Clone, Copy)]
 pub enum Event {
     // T and U: zone 1 to 5, and the temperature in half degrees or in sixteenths.
     Temperature { zone: u8, stated: Stated },
@@ -37,7 +39,7 @@ pub enum Event {
 }
 
 // What a tick shows.
-#[derive(Drop)]
+#[derive(Clone, Copy)]
 pub struct Tick {
     pub alert: bool,
     pub duty1: u16,
@@ -48,7 +50,7 @@ pub struct Tick {
 }
 
 // What an event answers.
-#[derive(Drop)]
+#[derive(Clone, Copy)]
 pub enum Answer {
     Nothing,
     // The refusal's number.
@@ -68,7 +70,7 @@ pub enum Answer {
 }
 
 // The chip after an event, and the event's answer.
-#[derive(Drop)]
+#[derive(Clone, Copy)]
 pub struct Stepped {
     pub chip: Chip,
     pub answer: Answer,

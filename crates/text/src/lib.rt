@@ -23,7 +23,7 @@ pub const BLOCK_ROOM: usize = 128;
 const BLOCK_MOST: usize = 32;
 
 // A decimal field: wrong spelling, "-" alone, or a number, of which all above 65535 count as 65535.
-#[derive(Drop)]
+#[derive(Clone, Copy)]
 pub enum Number {
     Wrong,
     Dash,
@@ -39,7 +39,7 @@ pub enum Hex {
 }
 
 // Digits and their value, or something else.
-#[derive(Drop)]
+#[derive(Clone, Copy)]
 pub enum Run {
     Other,
     Digits(u16),
