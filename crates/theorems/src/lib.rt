@@ -1,1 +1,3 @@
+#![tactic(auto)]
+
 // Theorems about the chip, over the definitions that the code is proved to meet: no code, only specs/.

@@ -1,6 +1,5 @@
 -- `bus::dump` meets its contract: the buffer is filled from the front with the present bytes. Assumes nothing.
 use mathlib.Core.Path.{◌≡◌, refl, ap, ◌∙◌}
-use Prim.Native.Nat.{◌-◌}
 use native.Mathlib.Omega.{arith}
 use lib.ListN.{length-set}
 use borrow.Author.Tests.{lt-ltb, le-ltb}
@@ -26,13 +25,12 @@ pub loop-i-smaller : goal.loop-i-smaller
 loop-i-smaller c = omega arith
 
 pub loop-i-preserved : goal.loop-i-preserved
-loop-i-preserved c =
-    (
-      omega arith,
-      c.loop-i.invariant.1,
-      simp length-set c.loop-i.invariant.2,
-      tab_more (shown_register _) c.loop-i.i _ _ (omega arith) (c.show_register.ensures ∙ ap (shown_register _) (omega arith)) c.loop-i.invariant.3,
-    )
+loop-i-preserved c = (
+  omega arith,
+  c.loop-i.invariant.1,
+  simp length-set c.loop-i.invariant.2,
+  tab_more (shown_register _) c.loop-i.i _ _ (omega arith) (c.show_register.ensures ∙ ap (shown_register _) (omega arith)) c.loop-i.invariant.3,
+)
 
 pub returns : goal.returns
 unfolding dump_answer dumped_into shown_all

@@ -1,6 +1,5 @@
 -- `bus::show_block` meets its contract: the bytes are filled from the front with what the block's registers show. Assumes nothing.
 use mathlib.Core.Path.{refl}
-use Prim.Native.Nat.{◌-◌}
 use native.Mathlib.Omega.{arith}
 use lib.ListN.{length-set}
 use Rattle.laws.specs.Tab.{tab_none, tab_more, tab_done}
@@ -22,12 +21,11 @@ loop-k-smaller c = omega arith
 
 pub loop-k-preserved : goal.loop-k-preserved
 unfolding block_bytes
-loop-k-preserved c =
-    (
-      omega arith,
-      simp length-set c.loop-k.invariant.1,
-      tab_more _ c.loop-k.k _ _ (omega arith) (rw c.block_place.ensures at c.show_register.ensures) c.loop-k.invariant.2,
-    )
+loop-k-preserved c = (
+  omega arith,
+  simp length-set c.loop-k.invariant.1,
+  tab_more _ c.loop-k.k _ _ (omega arith) (rw c.block_place.ensures at c.show_register.ensures) c.loop-k.invariant.2,
+)
 
 pub returns : goal.returns
 unfolding block_bytes

@@ -1,6 +1,5 @@
 -- `bus::write_block` meets its contract: what is written, and then the bytes that are left, is the whole block. Assumes nothing.
 use mathlib.Core.Path.{refl, sym, ap, ◌∙◌}
-use Prim.Native.Nat.{◌-◌}
 use native.Mathlib.Omega.{arith}
 use Rattle.state.specs.declared.Chip.{Chip}
 use Rattle.bus.specs.Blocks.{wrote_more, wrote_done}

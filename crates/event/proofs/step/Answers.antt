@@ -1,10 +1,8 @@
 -- `event::step` meets its contract: in each arm g is where the event was told apart, and p says that its numbers are in range.
 use Rattle.event.proofs.step.Goals as goal
-
 -- Assumes nothing.
 use mathlib.Core.Path.{sym, ◌∙◌}
 use native.Mathlib.Omega.{arith}
-use borrow.Author.Rules.{rules}
 use borrow.Author.Tests.{eqb-false}
 use Rattle.state.specs.Parts.{register_at, in_error}
 use Rattle.state.specs.With.{with_register, with_zone, with_volt, with_in_error, with_fan, with_hot_input}
@@ -18,8 +16,6 @@ use Rattle.event.specs.Event.{event_in, quiet_step, refused_step, tick_answer, w
 use Rattle.event.specs.Refusal.{step_refused}
 use Rattle.event.specs.Ticking.{tick_by_parts}
 use Rattle.event.proofs.Ranges.{place, stated_inside, passed, taken_step_lem}
-use Rattle.event.proofs.step.Statement.{statement}
-use Rattle.event.proofs.step.Tie as tie
 
 pub overflow_sub-at : goal.overflow_sub-at
 unfolding event_in
