@@ -6,14 +6,14 @@ ghost use Rattle.temperature.specs.Temperature.{whole_of, is_odd, whole_byte, ha
 ghost use Rattle.temperature.specs.Raised.{raised};
 
 // A signed count of sixteenths of a degree, or none.
-#[derive(Drop)]
+#[derive(Clone, Copy)]
 pub enum Reading {
     Missing,
     Taken(i16),
 }
 
 // A temperature as an event states it: none, a signed count of half degrees (T), or of sixteenths (U).
-#[derive(Drop)]
+#[derive(Clone, Copy)]
 pub enum Stated {
     Missing,
     Halves(i16),
