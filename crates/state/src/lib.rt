@@ -1,4 +1,6 @@
 // The chip's state: what a setup holds, what the chip holds, and the chip at power-on.
+#![tactic(auto)]
+
 ghost use Rattle.std.specs.Prelude.{◌≡◌, get_or, set};
 ghost use Rattle.state.specs.Parts.{no_zone, no_gauge, no_kept, zone_enabled};
 ghost use Rattle.map.specs.Tables.{defaults};
@@ -13,67 +15,67 @@ use temperature::Reading;
 pub mod most;
 
 // A voltage or fan count, or none.
-#[derive(Drop)]
+#[derive(Clone, Copy)]
 pub enum Count {
     Missing,
     Taken(u16),
 }
 
 // A zone's boost temperature in degrees, or none.
-#[derive(Drop)]
+#[derive(Clone, Copy)]
 pub enum Boost {
     Off,
     At(i8),
 }
 
 // A fan's override duty, or none.
-#[derive(Drop)]
+#[derive(Clone, Copy)]
 pub enum Override {
     Off,
     At(u16),
 }
 
 // The high byte of a fan count that a read of its low byte kept, or none.
-#[derive(Drop)]
+#[derive(Clone, Copy)]
 pub enum KeptByte {
     None,
     High(u8),
 }
 
 // What the address pin's level has been taken for: nothing yet, or the slave address.
-#[derive(Drop)]
+#[derive(Clone, Copy)]
 pub enum Latch {
     Open,
     Held(u8),
 }
 
-#[derive(Drop)]
+#[derive(Clone, Copy)]
 pub struct Zone {
     pub reading: Reading,
 }
 
-#[derive(Drop)]
+#[derive(Clone, Copy)]
 pub struct Gauge {
     pub count: Count,
 }
 
-#[derive(Drop)]
+#[derive(Clone, Copy)]
 pub struct FanKept {
     pub byte: KeptByte,
 }
 
-#[derive(Drop)]
+#[derive(Clone, Copy)]
 pub struct ZoneBoost {
     pub boost: Boost,
 }
 
-#[derive(Drop)]
+#[derive(Clone, Copy)]
 pub struct FanOverride {
     pub duty: Override,
 }
 
 // The 59 numbers of a setup, in document 01's order.
-#[derive(Drop)]
+#[derive(Clone, Copy)]
 pub struct Setup {
     pub level: u8,
     // In degrees.
@@ -94,21 +96,21 @@ pub struct Setup {
 }
 
 // The address pin.
-#[derive(Drop)]
+#[derive(Clone, Copy)]
 pub struct Pin {
     pub level: u8,
     pub latch: Latch,
 }
 
 // A hot input's ramp.
-#[derive(Drop)]
+#[derive(Clone, Copy)]
 pub struct Ramp {
     pub level: u16,
     pub wait: u8,
 }
 
 // What only a tick changes.
-#[derive(Drop)]
+#[derive(Clone, Copy)]
 pub struct Drive {
     pub steps: [u8; 4],
     pub boosts: [bool; 6],
@@ -117,7 +119,7 @@ pub struct Drive {
     pub starts: [u8; 2],
 }
 
-#[derive(Drop)]
+#[derive(Clone, Copy)]
 pub struct Chip {
     pub setup: Setup,
     pub registers: [u8; 256],
@@ -135,7 +137,7 @@ pub struct Chip {
 }
 
 // The chip, and 0 or the refusal of its setup.
-#[derive(Drop)]
+#[derive(Clone, Copy)]
 pub struct Powered {
     pub chip: Chip,
     pub refusal: u8,

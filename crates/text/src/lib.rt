@@ -30,7 +30,7 @@ pub enum Number {
 }
 
 // A bus field: wrong spelling, or a byte.
-#[derive(Drop)]
+#[derive(Clone, Copy)]
 pub enum Hex {
     Wrong,
     Byte(u8),
