@@ -12,7 +12,7 @@ use state::{Chip, Count, Gauge, Zone};
 use temperature::{HALF, Reading, Stated};
 
 // An event, with the numbers as they came in. The bytes of a block write are lent beside it, and their count is how many are lent.
-#[derive(Drop)]
+#[derive(Clone, Copy)]
 pub enum Event {
     // T and U: zone 1 to 5, and the temperature in half degrees or in sixteenths.
     Temperature { zone: u8, stated: Stated },
@@ -37,7 +37,7 @@ pub enum Event {
 }
 
 // What a tick shows.
-#[derive(Drop)]
+#[derive(Clone, Copy)]
 pub struct Tick {
     pub alert: bool,
     pub duty1: u16,
@@ -48,7 +48,7 @@ pub struct Tick {
 }
 
 // What an event answers.
-#[derive(Drop)]
+#[derive(Clone, Copy)]
 pub enum Answer {
     Nothing,
     // The refusal's number.
@@ -68,7 +68,7 @@ pub enum Answer {
 }
 
 // The chip after an event, and the event's answer.
-#[derive(Drop)]
+#[derive(Clone, Copy)]
 pub struct Stepped {
     pub chip: Chip,
     pub answer: Answer,

@@ -14,7 +14,7 @@ pub mod registers;
 mod tables;
 
 // What kind of register stands at an address. Zones count from 0 in the order 1a, 1b, 2a, 2b, 3, 4; channels and fans count from 0.
-#[derive(Drop)]
+#[derive(Clone, Copy)]
 pub enum Kind {
     // Stored as it is written.
     Plain,

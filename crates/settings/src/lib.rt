@@ -15,7 +15,7 @@ use text::Number;
 mod places;
 
 // One of the 59 numbers, as it is spelled.
-#[derive(Drop)]
+#[derive(Clone, Copy)]
 pub struct Entry {
     pub number: Number,
 }

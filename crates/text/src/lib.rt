@@ -21,7 +21,7 @@ pub const BLOCK_ROOM: usize = 128;
 const BLOCK_MOST: usize = 32;
 
 // A decimal field: wrong spelling, "-" alone, or a number, of which all above 65535 count as 65535.
-#[derive(Drop)]
+#[derive(Clone, Copy)]
 pub enum Number {
     Wrong,
     Dash,
