@@ -12,14 +12,14 @@ use state::Chip;
 use text::{BLOCK_ROOM, ROOM};
 
 // A chip, and whether any line has been taken.
-#[derive(Drop)]
+#[derive(Clone, Copy)]
 pub struct Session {
     pub chip: Chip,
     pub begun: bool,
 }
 
 // 0 or a line's refusal, and how many bytes of answer it wrote.
-#[derive(Drop)]
+#[derive(Clone, Copy)]
 pub struct Reply {
     pub refusal: u8,
     pub length: usize,
