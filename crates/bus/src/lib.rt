@@ -1,5 +1,7 @@
 // The SMBus side of the chip: the address latch, byte writes, byte reads and the register dump (document 01, "Bus answers"), block reads
 // and block writes (document 02, Q-1), the high bytes of fan counts that byte reads keep (Q-4).
+#![tactic(auto)]
+
 ghost use Rattle.std.specs.Prelude.{◌≡◌, length};
 ghost use Rattle.state.specs.Made.{of_registers, of_zones, of_readings, of_kept};
 ghost use Rattle.bus.specs.Latch.{latch_after, transacted_pin, is_ours};

@@ -1,4 +1,6 @@
 // What turns the fans: tables, boosts, ramps, duties and the kick (document 01, "Fan duties").
+#![tactic(auto)]
+
 ghost use Rattle.std.specs.Prelude.{◌≡◌, ◌-◌, ◌*◌, ◌≤◌, ◌<◌, min, max};
 ghost use Rattle.laws.specs.Pick.{pick};
 ghost use Rattle.drive.specs.Tables.{joined_zone, zone_in, zone_one, zone_two, followed_zone, unit_of, table_from, sum_to, is_reached, threshold_reached, new_step, asked_duty};

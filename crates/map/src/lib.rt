@@ -37,7 +37,7 @@ pub enum Kind {
 }
 
 // What a block command names: no block, or a fixed one by its first register and its count.
-#[derive(Drop)]
+#[derive(Clone, Copy)]
 pub enum Block {
     Unlisted,
     Fixed(u8, u8),

@@ -1,4 +1,6 @@
 // Which error bits the sleep state masks (document 02, Q-12; source document 000, 6.4.9 and 6.4.14).
+#![tactic(auto)]
+
 ghost use Rattle.std.specs.Prelude.{◌≡◌};
 ghost use Rattle.masks.specs.Masks.{state_by, sleep_state, zone_masks, volt_masks, fan_masks};
 ghost use Rattle.masks.specs.Asleep.{asleep_volts, asleep_zones};
@@ -6,7 +8,7 @@ ghost use Rattle.masks.specs.Asleep.{asleep_volts, asleep_zones};
 use map::{bits, registers};
 
 // The sleep states of E4h.
-#[derive(Drop)]
+#[derive(Clone, Copy)]
 pub enum SleepState {
     S0,
     S1,

@@ -1,4 +1,6 @@
 // How readings come in, and the errors they raise (document 01, "Events" and "Errors and ALERT"; document 02, Q-2 and Q-12).
+#![tactic(auto)]
+
 ghost use Rattle.std.specs.Prelude.{◌≡◌, ◌+◌, ◌-◌, ◌<◌, ◌^◌};
 ghost use Rattle.std.specs.Int.Bits.{bit_and};
 ghost use Rattle.laws.specs.Binary.{has_digit};

@@ -1,4 +1,6 @@
 // Lines as text: fields in, answers out (document 01, "Lines and refusals"; document 02, Q-1).
+#![tactic(auto)]
+
 ghost use Rattle.std.specs.Prelude.{◌≡◌, [], ◌∷◌, ◌+◌, ◌*◌, ◌≤◌, ◌<◌, length, drop};
 ghost use Rattle.laws.specs.Pick.{both};
 ghost use Rattle.text.specs.Widths.{width_before};

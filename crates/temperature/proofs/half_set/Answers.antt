@@ -6,6 +6,10 @@ use Rattle.temperature.specs.Temperature.{half_set}
 use Rattle.temperature.proofs.Fits.{halves_fit}
 use Rattle.temperature.proofs.half_set.Goals as goal
 
+pub returns-in_default : goal.returns-in_default
+unfolding half_set
+returns-in_default c = search rules
+
 pub returns : goal.returns
 unfolding half_set
 returns c =

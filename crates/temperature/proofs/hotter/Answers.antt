@@ -18,6 +18,14 @@ unfolding hotter_of
 both-taken {t = true} p q f g e = simp (to_z-of_z, p, q, simp to_z-of_z at e)
 both-taken {t = false} p q f g e = simp (to_z-of_z, p, q, simp to_z-of_z at e)
 
+pub returns-in_default : goal.returns-in_default
+unfolding hotter_of
+returns-in_default c = search rules
+
+pub returns-in_default-b : goal.returns-in_default-b
+unfolding hotter_of
+returns-in_default-b c = search rules
+
 pub returns-then-x-y : goal.returns-then-x-y
 returns-then-x-y c =
     both-taken c.in-Taken.is c.in-Taken-b.is (search rules) (search rules) c.if-x-y.true

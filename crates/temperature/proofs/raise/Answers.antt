@@ -7,7 +7,7 @@ use lib.IntN.{pos, ◌+ℤ◌}
 use Rattle.temperature.specs.Raised.{raised, raised_is, raised_lt}
 use Rattle.temperature.proofs.raise.Goals as goal
 
-module _ (c : tie.Start) where
+module _ (c : goal.Start) where
   z16 : SFits w16 c.args.z
   z16 = c.ranges.z
 

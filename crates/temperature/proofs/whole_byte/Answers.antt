@@ -5,6 +5,10 @@ use borrow.Author.Rules.{rules}
 use Rattle.temperature.specs.Temperature.{whole_byte}
 use Rattle.temperature.proofs.whole_byte.Goals as goal
 
+pub returns-in_default : goal.returns-in_default
+unfolding whole_byte
+returns-in_default c = search rules
+
 pub returns : goal.returns
 unfolding whole_byte
 returns c =

@@ -7,6 +7,10 @@ use Rattle.temperature.specs.Temperature.{with_half}
 use Rattle.temperature.proofs.Fits.{degrees_fit, down_fits, half_more_fits}
 use Rattle.temperature.proofs.with_half.Goals as goal
 
+pub returns-in_default : goal.returns-in_default
+unfolding with_half
+returns-in_default c = search rules
+
 pub returns-then-half : goal.returns-then-half
 unfolding with_half
 returns-then-half c =

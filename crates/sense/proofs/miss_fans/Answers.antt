@@ -1,0 +1,17 @@
+use mathlib.Core.Path.{◌≡◌, refl, ◌∙◌}
+use Prim.Native.Nat.{◌-◌}
+use native.Mathlib.Numerals.{add-one}
+use borrow.Author.Rules.{rules}
+use Rattle.sense.specs.Missing.{missed_fans}
+use Rattle.sense.proofs.miss_fans.Goals as goal
+
+pub loop-i-init : goal.loop-i-init
+unfolding missed_fans
+loop-i-init c = (search rules, refl)
+
+pub loop-i-preserved : goal.loop-i-preserved
+unfolding missed_fans
+loop-i-preserved c = (search rules, rw (c.miss_fan.ensures, add-one, c.loop-i.invariant.1))
+
+pub returns : goal.returns
+returns c = let e : c.loop-i.i ≡ 4 = search rules in c.loop-i.invariant.1 ∙ rw e

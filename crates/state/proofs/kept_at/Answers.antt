@@ -1,0 +1,12 @@
+use mathlib.Core.Path.{◌≡◌}
+use native.Mathlib.Omega.{arith}
+use lib.ListN.{length}
+use Rattle.state.specs.Parts.{no_kept}
+use Rattle.state.proofs.Lengths.{unmapped, read_past}
+use borrow.Author.Rules.{rules}
+use Rattle.state.proofs.kept_at.Goals as goal
+
+pub returns : goal.returns
+returns c =
+    let n : length c.args.kept ≡ 4 = search (rules, unmapped) in
+    rw (read_past c.args.kept c.args.fan no_kept n (omega arith))
