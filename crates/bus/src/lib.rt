@@ -21,7 +21,7 @@ const FAMILY: u8 = 0x0B;
 const LAST: u8 = 0xFF;
 
 // What a byte write changes: nothing, a register that then holds a byte, or a zone that then has a reading.
-#[derive(Drop)]
+#[derive(Clone, Copy)]
 pub enum Change {
     Nothing,
     Register(u8, u8),
@@ -29,14 +29,14 @@ pub enum Change {
 }
 
 // What a byte read shows, and the high bytes of fan counts that are kept after it.
-#[derive(Drop)]
+#[derive(Clone, Copy)]
 pub struct ByteRead {
     pub byte: u8,
     pub kept: [FanKept; 4],
 }
 
 // What a dump answers: 0 or its refusal, and how many bytes it wrote.
-#[derive(Drop)]
+#[derive(Clone, Copy)]
 pub struct Dumped {
     pub refusal: u8,
     pub length: usize,

@@ -23,14 +23,14 @@ const FULL: u16 = 256;
 const RAMP_STEP: u16 = 16;
 
 // A table's new step, and how many thresholds the search for it compared.
-#[derive(Drop)]
+#[derive(Clone, Copy)]
 pub struct Searched {
     pub step: u8,
     pub compared: u8,
 }
 
 // Where a look upward ends, the offsets up to there added, and how many thresholds were compared.
-#[derive(Drop)]
+#[derive(Clone, Copy)]
 struct Look {
     step: usize,
     sum: u32,
@@ -38,14 +38,14 @@ struct Look {
 }
 
 // A fan's output, and what is left of its start count.
-#[derive(Drop)]
+#[derive(Clone, Copy)]
 pub struct Kick {
     pub output: u16,
     pub start: u8,
 }
 
 // What only a tick changes, as the tick leaves it, and its two outputs.
-#[derive(Drop)]
+#[derive(Clone, Copy)]
 pub struct Driven {
     pub drive: Drive,
     pub outputs: [u16; 2],

@@ -57,5 +57,5 @@ passed {f = f} {bytes = bytes} test holds is =
     record { is = is; none = n; inside = taken_in f bytes n }
 
 -- it is taken
-pub taken_step : {e f : Event} {bytes : List ℕ} → Passed e f bytes → (c : Chip) {s : Stepped} → s ≡ taken_step c f bytes → s ≡ stepped_chip c e bytes
-taken_step {e} {f} {bytes} p c q = rw p.is (q ∙ sym (step_taken c f bytes p.none))
+pub taken_step_lem : {e f : Event} {bytes : List ℕ} → Passed e f bytes → (c : Chip) {s : Stepped} → s ≡ taken_step c f bytes → s ≡ stepped_chip c e bytes
+taken_step_lem {e} {f} {bytes} p c q = rw p.is (q ∙ sym (step_taken c f bytes p.none))

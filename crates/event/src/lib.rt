@@ -1,5 +1,7 @@
 // The events of the chip: each is taken, or refused by its number (document 01, "Events" and "Lines and refusals"; document 02, Q-1, Q-7 and
 // Q-12).
+#![tactic(auto)]
+
 ghost use Rattle.std.specs.Prelude.{◌≡◌, true, eqb, length};
 ghost use Rattle.event.specs.Event.{index_in, reading_within, stated_in, count_in, level_in, level_of, temperature_in, voltage_in, fan_in, hot_in, address_in, event_in, refusal_of, stepped_chip};
 ghost use Rattle.temperature.specs.Temperature.{stated_reading};

@@ -1,4 +1,6 @@
 // A chip by value, lent to the port and taken back: the functions of `port`, with the promises of those that take the chip by value.
+#![tactic(auto)]
+
 ghost use Rattle.std.specs.Prelude.{◌≡◌, length};
 ghost use Rattle.bus.specs.Dump.{dump_answer, dumped_into};
 ghost use Rattle.bus.specs.Block.{block_bytes};

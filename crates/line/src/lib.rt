@@ -1,4 +1,6 @@
 // A line of text given to the chip: taken, or refused by its number (document 01, "Lines and refusals"; document 02, Q-1).
+#![tactic(auto)]
+
 ghost use Rattle.std.specs.Prelude.{◌≡◌};
 ghost use Rattle.line.specs.Line.{start_session, asked_event, asked_settings, asked_other, room_for, asked_line, refused_line, setup_line, event_line, answer_text, answer_room, silent_line, taken_by, buffer_by, taken_line, buffer_after};
 ghost use Rattle.settings.specs.Settings.{settings_of};
@@ -26,14 +28,14 @@ pub struct Reply {
 }
 
 // The session after a line, and its reply.
-#[derive(Drop)]
+#[derive(Clone, Copy)]
 pub struct Taken {
     pub session: Session,
     pub reply: Reply,
 }
 
 // What a line asks for. The setup itself is not in here: it is large, and most lines have none.
-#[derive(Drop)]
+#[derive(Clone, Copy)]
 pub enum Asked {
     Setup,
     Refused(u8),

@@ -1,4 +1,6 @@
 // A line of text as an event (document 01, "Lines and refusals"; document 02, Q-1 and Q-7). The ranges of its numbers are the event's own business.
+#![tactic(auto)]
+
 ghost use Rattle.std.specs.Prelude.{◌≡◌, ◌++◌, ◌≤◌, min, pos, neg_ℤ, length, drop};
 ghost use Rattle.text.specs.Number.{saturated};
 ghost use Rattle.parse.specs.Parse.{number_at, letter_of, index_of, spelled_stated, count_of, pair_of, pin_line, alone_line, two_by, two_of, three_by, three_of, write_line, read_line, read_block_line, is_data, write_block_line, event_by, event_of, data_by, data_of};
@@ -16,28 +18,28 @@ const TAB: u8 = 9;
 const DATA: usize = 4;
 
 // What a line says: nothing that is spelled right, or an event.
-#[derive(Drop)]
+#[derive(Clone, Copy)]
 pub enum Parsed {
     Wrong,
     Fine(Event),
 }
 
 // An index and a value, both spelled right.
-#[derive(Drop)]
+#[derive(Clone, Copy)]
 pub enum Pair {
     Wrong,
     Of(Number, Number),
 }
 
 // Two bus fields, both spelled right.
-#[derive(Drop)]
+#[derive(Clone, Copy)]
 pub enum Two {
     Wrong,
     Of(u8, u8),
 }
 
 // Three.
-#[derive(Drop)]
+#[derive(Clone, Copy)]
 pub enum Three {
     Wrong,
     Of(u8, u8, u8),

@@ -1,4 +1,6 @@
 // The chip that stays with the caller: each function calls the one that takes the chip by value, and stores back what it gives.
+#![tactic(auto)]
+
 ghost use Rattle.port.specs.Port.{PowersOn, TakesEvent, TakesLine, Dumps, ShowsBlock};
 
 use bus::Dumped;

@@ -1,4 +1,6 @@
 // The setup that an S line carries (document 01, "Setup").
+#![tactic(auto)]
+
 ghost use Rattle.std.specs.Prelude.{◌≡◌, ◌+◌, ◌≤◌, ◌<◌, length, drop};
 ghost use Rattle.laws.specs.Tab.{tab};
 ghost use Rattle.laws.specs.Every.{every};
@@ -21,7 +23,7 @@ pub struct Entry {
 }
 
 // What a number may be.
-#[derive(Drop)]
+#[derive(Clone, Copy)]
 pub struct Range {
     // The largest.
     pub most: u16,
@@ -32,7 +34,7 @@ pub struct Range {
 }
 
 // The refusal of an S line by itself, or 0, and its setup; of a refused line that without a setup.
-#[derive(Drop)]
+#[derive(Clone, Copy)]
 pub struct Settings {
     pub refusal: u8,
     pub setup: Setup,

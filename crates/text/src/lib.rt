@@ -39,7 +39,7 @@ pub enum Hex {
 }
 
 // Digits and their value, or something else.
-#[derive(Drop)]
+#[derive(Clone, Copy)]
 pub enum Run {
     Other,
     Digits(u16),

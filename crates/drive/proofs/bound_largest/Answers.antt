@@ -2,8 +2,7 @@
 use mathlib.Core.Path.{◌≡◌, refl, sym, ◌∙◌}
 use mathlib.Core.Bool.{true, false}
 use mathlib.Core.List.{List}
-use mathlib.Core.Logic.{⊎_elim}
-use Prim.Native.Nat.{ℕ, ◌+◌, ◌-◌, ◌^◌, max}
+use Prim.Native.Nat.{ℕ, ◌+◌, ◌^◌, max}
 use native.Mathlib.Numerals.{add-one}
 use native.Mathlib.Omega.{arith}
 use lib.ListN.{get_or}
@@ -11,6 +10,7 @@ use Rattle.laws.specs.Shift.{one_shl}
 use Rattle.map.specs.Bits.{is_set}
 use Rattle.drive.specs.Duties.{bound_largest}
 use Rattle.drive.proofs.bound_largest.Goals as goal
+use Rattle.drive.proofs.bound_largest.Goals.{then-is_set, else-is_set}
 
 -- one value more: bound or not
 module _ (bound : ℕ) (values : List ℕ) (i : ℕ) where
@@ -37,12 +37,16 @@ loop-i-smaller c = omega arith
 
 pub loop-i-preserved : goal.loop-i-preserved
 loop-i-preserved c =
-    let bit : c.is_set.result ≡ is_set c.args.bound (2 ^ c.loop-i.i) = rw (one_shl c.loop-i.i (omega arith)) at c.is_set.ensures in (
+    let a = c.args in
+    let i = c.loop-i.i in
+    let was = c.loop-i.invariant.1 in
+    let bit : c.is_set.result ≡ is_set a.bound (2 ^ i) = rw (one_shl i (omega arith)) at c.is_set.ensures in (
       omega arith,
-      ⊎_elim
-          (λ w. rw (bound-yes c.args.bound c.args.values c.loop-i.i (sym bit ∙ w.0.taken), ← c.loop-i.invariant.1) (w.2 ∙ w.1.ensures))
-          (λ w. rw (bound-no c.args.bound c.args.values c.loop-i.i (sym bit ∙ w.0.left), ← c.loop-i.invariant.1) w.1)
-          c.if-is_set.branch,
+      elim c.if-is_set.branch [
+        | then-is_set w ↦
+            rw (bound-yes a.bound a.values i (sym bit ∙ w.if-is_set.true), ← was) (w.largest-is ∙ w.larger-largest.ensures)
+        | else-is_set w ↦ rw (bound-no a.bound a.values i (sym bit ∙ w.if-is_set.false), ← was) w.largest-is
+      ],
     )
 
 pub returns : goal.returns

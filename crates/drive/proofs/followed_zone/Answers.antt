@@ -1,3 +1,4 @@
+use Rattle.std.proofs.Common.{◌≢◌, arith}
 use borrow.Author.Tests.{ne_eqb}
 use Rattle.drive.specs.Tables.{followed_zone}
 use Rattle.drive.proofs.followed_zone.Goals as goal
@@ -17,4 +18,8 @@ returns-in-2 c = rw (c.in-2.is, ← c.is_set-in-2.ensures) c.one_or_three-in-2.e
 pub returns-in_default : goal.returns-in_default
 unfolding followed_zone
 returns-in_default c =
-    rw (ne_eqb _ 0 c.in_default.in_default-own.rest.0.0.1, ne_eqb _ 1 c.in_default.in_default-own.rest.0.1, ne_eqb _ 2 c.in_default.in_default-own.rest.1, ← c.is_set-in_default.ensures) c.two_or_four-in_default.ensures
+    let t = c.args.table in
+    let n0 : t ≢ 0 = omega arith in
+    let n1 : t ≢ 1 = omega arith in
+    let n2 : t ≢ 2 = omega arith in
+    rw (ne_eqb _ _ n0, ne_eqb _ _ n1, ne_eqb _ _ n2, ← c.is_set-in_default.ensures) c.two_or_four-in_default.ensures

@@ -1,0 +1,12 @@
+use Prim.Native.Nat.{◌-◌}
+use Rattle.laws.specs.Tried.{Tried}
+use Rattle.settings.specs.Places.{NUMBERS}
+use Rattle.settings.specs.Settings.{range_of, is_within}
+use Rattle.settings.specs.Entries.{entry_in}
+use Rattle.settings.proofs.all_within.Given as goal
+
+abbrev pub invariant-loop-k : goal.invariant-loop-k
+invariant-loop-k l = Tried (λ j. is_within (range_of j) (entry_in l.entries j)) NUMBERS l.k
+
+abbrev pub decreases-loop-k : goal.decreases-loop-k
+decreases-loop-k l = NUMBERS - l.k

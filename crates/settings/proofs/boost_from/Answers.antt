@@ -1,0 +1,13 @@
+use mir.Syntax.{w8}
+use mir.Facts.{to_z-of_z}
+use Rattle.settings.specs.Settings.{none_or}
+use Rattle.settings.proofs.NotDash.{not_dash}
+use Rattle.settings.proofs.boost_from.Goals as goal
+
+pub returns-in_default : goal.returns-in_default
+returns-in_default c =
+    rw (to_z-of_z {w = w8} (record { sfits = c.held_degrees.type_inv }), c.held_degrees.ensures, not_dash _ _ c.args.n c.in_default.not-Dash)
+
+pub returns : goal.returns
+unfolding none_or
+returns c = rw c.in-Dash.is
