@@ -1,1 +1,2 @@
 // Mathematics only: the definitions and laws of specs/, which the proofs of the other crates cite.
+#![tactic(auto)]

@@ -1,6 +1,6 @@
 -- The count of errors and ALERT, and what a tick marks: a watched reading that is still missing, and not masked, cannot look healthy.
 -- Assumes nothing.
-use Rattle.std.specs.Prelude.{◌≡◌, true, false, not, List, ℕ, suc, ◌+◌, ◌-◌, ◌*◌, ◌/◌, ◌%◌, ◌^◌, ◌≤◌, ◌<◌, T, ltb, length, get_or}
+use Rattle.std.specs.Prelude.{◌≡◌, true, false, not, List, ℕ, suc, ◌+◌, ◌*◌, ◌/◌, ◌%◌, ◌^◌, ◌≤◌, ◌<◌, T, ltb, length, get_or}
 use Rattle.std.proofs.Common.{ap, ◌∙◌, arith, lt-ltb}
 use Rattle.std.proofs.Math.Path.{ap₂}
 use Rattle.std.specs.Float.Ieee.Bits.{is_true}

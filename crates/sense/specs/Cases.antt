@@ -8,7 +8,7 @@ use Rattle.masks.specs.Masks.{state_by, sleep_state, is_masked, asleep_volt, vol
 use Rattle.temperature.specs.declared.Reading.TheVariants as reading
 use Rattle.temperature.specs.Temperature.{byte_of, whole_of, whole_byte, degrees_of, count_reading}
 use Rattle.state.specs.declared.Chip.{Chip}
-use Rattle.state.specs.declared.Count.TheVariants.{Taken, Missing}
+use Rattle.state.specs.declared.Count.TheVariants.{Taken}
 use Rattle.state.specs.Parts.{register_at, zone_at, zone_enabled, in_error}
 use Rattle.state.specs.With.{with_register, with_zone, with_volt, with_in_error}
 use Rattle.state.specs.PowerOn.{default_setup, power_on, at_rest}

@@ -67,9 +67,9 @@ module _ (s t : Session) (p : Pair s.chip t.chip) where
 run : (s t : Session) {ls ms : List (List ℕ)} → Pair s.chip t.chip → AllLinesAlike ls ms → AllTaken s ls → AllTaken t ms → AllNoHigher (answers_of s ls) (answers_of t ms)
 unfolding answers_of
 run s t p none x y = no-answers
-run s t p (more a rest) (more x xs) (more y ys) =
+run s t p (more {l = l} {m = m} a rest) (more x xs) (more y ys) =
     let r = lines_rise s t p a x y in
-    more-answers r.answers (run _ _ r.chips rest xs ys)
+    more-answers r.answers (run (judged_line s l).session (judged_line t m).session r.chips rest xs ys)
 
 pub demand_3_lines : (ls ms : List (List ℕ)) → AllLinesAlike ls ms → AllTaken start_session ls → AllTaken start_session ms → AllNoHigher (answers_of start_session ls) (answers_of start_session ms)
 unfolding start_session

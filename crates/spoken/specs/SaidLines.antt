@@ -56,7 +56,7 @@ module _ (s : Session) (begun : s.begun ≡ true) (l : List ℕ) where
 pub said_chip : (s : Session) → s.begun ≡ true → (ls : List (List ℕ)) → (session_after s ls).chip ≡ chip_after s.chip (said_from s ls)
 unfolding session_after said_from chip_after judged_line
 said_chip s b [] = refl
-said_chip s b (l ∷ ls) = said_chip _ (line_begun s b l) ls ∙ asked_chip s b l _ (asks_no_setup s b l) _
+said_chip s b (l ∷ ls) = said_chip (judged_line s l).session (line_begun s b l) ls ∙ asked_chip s b l _ (asks_no_setup s b l) _
 
 -- ---- the bench's start
 

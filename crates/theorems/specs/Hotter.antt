@@ -35,7 +35,7 @@ module _ {c d : Chip} {g h : Given} (p : Pair c d) (a : Alike g h) (t : NotRefus
 run : {c d : Chip} {gs hs : List Given} → Pair c d → AllAlike gs hs → NoneRefused c gs → NoneRefused d hs → AllNoHigher (answers_to c gs) (answers_to d hs)
 unfolding answers_to
 run p none t u = none
-run {c = c} {d = d} p (more {g = g} {h = h} {gs = gs} {hs = hs} a rest) (more t ts) (more u us) =
+run {c = c} {d = d} p (more {g = g} {h = h} a rest) (more t ts) (more u us) =
     more (step p a t u).answers (run {c = (given_step c g).chip} {d = (given_step d h).chip} (next p a t u) rest ts us)
 
 -- from one setup, which is taken: `state::power_on` and `port::power_on` answer 0

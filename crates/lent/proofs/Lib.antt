@@ -1,2 +1,0 @@
--- What the proofs of the lender cite.
-pub mod Lend
