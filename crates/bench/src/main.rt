@@ -1,8 +1,11 @@
 // The bench: reads lines from standard input, gives them to the chip and writes what they print.
+#![tactic(auto)]
+
 ghost use Rattle.std.specs.Prelude.{◌≤◌, length};
 
-use libc::{STDIN_FILENO, STDOUT_FILENO};
 use line::{Reply, Session};
+use std::io;
+use std::io::Read;
 use text::BLOCK_ROOM;
 
 // Buffers: what is read at once, what is written at once, and a line that came in several reads. Of a line of more than 512 bytes the first
@@ -15,8 +18,8 @@ const LINE: usize = 513;
 
 const LINE_FEED: u8 = 10;
 
-// The number of the next line, how many of its bytes are kept, how many bytes wait to be written, and whether they can be.
-#[derive(Drop)]
+// The number of the next line, how many of its bytes are kept, how many bytes wait to be written, and whether there may be more to read.
+#[derive(Clone, Copy)]
 struct Desk {
     number: u64,
     kept: usize,
@@ -25,7 +28,7 @@ struct Desk {
 }
 
 // The chip, and what is on the desk beside it.
-#[derive(Drop)]
+#[derive(Clone, Copy)]
 struct Bench {
     session: Session,
     desk: Desk,
@@ -37,33 +40,27 @@ fn smaller(a: usize, b: usize) -> usize
     if a < b { a } else { b }
 }
 
-// Writes to standard output, and says on standard error where that fails.
-fn write_out(out: &[u8]) -> bool {
-    if io::write_all(STDOUT_FILENO, out) {
-        return true;
-    }
-    os::fail(b"bench: cannot write standard output");
-    false
+// Writes to standard output.
+fn write_out(rt: &impl Print, out: &[u8]) -> io::Result<()> {
+    rt.write_all(out)
 }
 
-// Writes what waits, unless an earlier write failed.
-fn flush(desk: Desk, out: &[u8]) -> Desk {
+// Writes what waits.
+fn flush(rt: &impl Print, desk: Desk, out: &[u8]) -> io::Result<Desk> {
     let n = smaller(desk.waiting, out.len());
     let mut next = desk;
     next.waiting = 0;
-    if desk.open {
-        next.open = write_out(&out[..n]);
-    }
-    next
+    write_out(rt, &out[..n])?;
+    Ok(next)
 }
 
 // Writes what waits where another line's print might not fit behind it: the longest is that of a block read.
-fn make_room(desk: Desk, out: &[u8]) -> Desk {
+fn make_room(rt: &impl Print, desk: Desk, out: &[u8]) -> io::Result<Desk> {
     let n = smaller(desk.waiting, out.len());
     if BLOCK_ROOM <= out.len() - n {
-        return desk;
+        return Ok(desk);
     }
-    flush(desk, out)
+    flush(rt, desk, out)
 }
 
 // The number of the line behind.
@@ -135,7 +132,13 @@ fn whole<'a>(kept: &'a [u8], part: &'a [u8]) -> &'a [u8] {
 }
 
 // Takes what one read brought. A line that came at once is given to the chip where it stands.
-fn take_block(start: Bench, block: &[u8], line: &mut [u8], out: &mut [u8]) -> Bench {
+fn take_block(
+    rt: &impl Print,
+    start: Bench,
+    block: &[u8],
+    line: &mut [u8],
+    out: &mut [u8],
+) -> io::Result<Bench> {
     let mut session = start.session;
     let mut desk = start.desk;
     let mut i = 0;
@@ -145,7 +148,7 @@ fn take_block(start: Bench, block: &[u8], line: &mut [u8], out: &mut [u8]) -> Be
             let n = join(line, desk.kept, &block[i..e]);
             let text = whole(&line[..n], &block[i..e]);
             i = e + 1;
-            desk = make_room(desk, out);
+            desk = make_room(rt, desk, out)?;
             let at = smaller(desk.waiting, out.len());
             let taken = line::take_line(session, text, &mut out[at..]);
             session = taken.session;
@@ -155,24 +158,19 @@ fn take_block(start: Bench, block: &[u8], line: &mut [u8], out: &mut [u8]) -> Be
             i = e;
         }
     }
-    Bench {
+    Ok(Bench {
         session: session,
         desk: desk,
-    }
+    })
 }
 
-// Reads from standard input, and says on standard error where that fails.
-fn read_in(input: &mut [u8]) -> isize {
-    let got = libc::read(STDIN_FILENO, input);
-    if got < 0 {
-        os::fail(b"bench: cannot read standard input");
-    }
-    got
+// Reads from standard input.
+fn read_in(reader: &mut impl Read, input: &mut [u8]) -> io::Result<usize> {
+    reader.read(input)
 }
 
-// How many bytes of the input are to be taken, of what a read got: at its end a line feed, where a last line lacks its own, and none where the
-// read failed.
-fn end_block(input: &mut [u8], got: isize, kept: usize) -> usize
+// How many bytes of the input are to be taken, of what a read got: at its end a line feed, where a last line lacks its own.
+fn end_block(input: &mut [u8], got: usize, kept: usize) -> usize
     ensures { result ≤ length input.new }
 {
     if got == 0 {
@@ -183,56 +181,69 @@ fn end_block(input: &mut [u8], got: isize, kept: usize) -> usize
             }
         }
     }
-    io::count(got, input)
+    smaller(got, input.len())
 }
 
 // One read, and what came of it; before it, what waits is written.
-fn turn(start: Bench, input: &mut [u8], line: &mut [u8], out: &mut [u8]) -> Bench {
+fn turn(
+    rt: &impl Print,
+    reader: &mut impl Read,
+    start: Bench,
+    input: &mut [u8],
+    line: &mut [u8],
+    out: &mut [u8],
+) -> io::Result<Bench> {
     let mut bench = start;
-    bench.desk = flush(start.desk, out);
+    bench.desk = flush(rt, start.desk, out)?;
     let desk = bench.desk;
-    if desk.open {
-        let got = read_in(input);
-        let n = end_block(input, got, desk.kept);
-        bench = take_block(bench, &input[..n], line, out);
-        if got <= 0 {
-            let mut last = flush(bench.desk, out);
-            last.open = false;
-            bench.desk = last;
-        }
+    let got = read_in(reader, input)?;
+    let n = end_block(input, got, desk.kept);
+    bench = take_block(rt, bench, &input[..n], line, out)?;
+    if got == 0 {
+        let mut last = flush(rt, bench.desk, out)?;
+        last.open = false;
+        bench.desk = last;
     }
-    bench
+    Ok(bench)
 }
 
 // A loop has to end, and nothing says that an input does, so it counts down from a number that no run uses up.
-fn run(start: Bench, input: &mut [u8], line: &mut [u8], out: &mut [u8]) {
+fn run(
+    rt: &impl Print,
+    reader: &mut impl Read,
+    start: Bench,
+    input: &mut [u8],
+    line: &mut [u8],
+    out: &mut [u8],
+) -> io::Result<()> {
     let mut bench = start;
     let mut turns = u64::MAX;
     while turns > 0 {
-        bench = turn(bench, input, line, out);
+        bench = turn(rt, reader, bench, input, line, out)?;
         let desk = bench.desk;
         if desk.open {
             turns -= 1;
         } else {
-            return;
+            return Ok(());
         }
     }
+    Ok(())
 }
 
-fn main() {
+fn main(rt: HostRuntime) -> io::Result<()> {
     let mut input = [0u8; INPUT];
     let mut line = [0u8; LINE];
     let mut out = [0u8; OUTPUT];
     let session = line::start();
-    let open = write_out(b"bench\t1\n");
+    write_out(&rt, b"bench\t1\n")?;
     let bench = Bench {
         session: session,
         desk: Desk {
             number: 1,
             kept: 0,
             waiting: 0,
-            open: open,
+            open: true,
         },
     };
-    run(bench, &mut input, &mut line, &mut out);
+    run(&rt, &mut rt.stdin(), bench, &mut input, &mut line, &mut out)
 }

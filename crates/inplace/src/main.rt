@@ -1,11 +1,16 @@
 // Gives each line to a session that is lent to the port and to one that goes by value, and what the line says to a chip that is lent to the
 // port. Prints what the line prints, `differs` where the three do not agree, and at the end the register dump of the lent session and its
 // zones' readings.
+#![tactic(auto)]
+
+ghost use Rattle.std.specs.Prelude.{◌≤◌, IfOk, length};
+
 use event::{Answer, BLOCK_MOST, Tick};
-use libc::{STDIN_FILENO, STDOUT_FILENO};
 use line::{Reply, Session};
 use parse::Parsed;
 use state::{Chip, FanKept, KeptByte, Setup, Zone};
+use std::io;
+use std::io::Read;
 use temperature::Reading;
 use text::{BLOCK_ROOM, ROOM};
 
@@ -26,8 +31,8 @@ struct Run {
     number: u64,
 }
 
-fn print(bytes: &[u8]) {
-    io::write_all(STDOUT_FILENO, bytes);
+fn print(rt: &impl Print, bytes: &[u8]) -> io::Result<()> {
+    rt.write_all(bytes)
 }
 
 // ---- whether they agree
@@ -115,7 +120,7 @@ fn same_chip(held: Chip, moved: Chip) -> bool {
     let moved_erring = moved.erring;
     let held_zones = held.zones;
     let moved_zones = moved.zones;
-    check::same(&a, &b)
+    a == b
         && same_zones(held_zones, moved_zones)
         && same_kept(held_kept, moved_kept)
         && same_erring(held_erring, moved_erring)
@@ -204,38 +209,38 @@ fn same_block(answer: Answer, held: Chip, moved: Chip) -> bool {
     let mut b = [0u8; BLOCK_MOST];
     lent::show_block(held, first, &mut a);
     event::show_block(moved, first, &mut b);
-    check::same(&a, &b)
+    a == b
 }
 
-fn complain(alike: bool) {
+fn complain(rt: &impl Print, alike: bool) -> io::Result<()> {
     if alike {
-        return;
+        return Ok(());
     }
-    print(b"differs\n");
+    print(rt, b"differs\n")
 }
 
 // ---- a line
 
 // The chip after the setup of an S line, if the line is taken.
-fn set_up(chip: Chip, refusal: u8, line: &[u8]) -> Chip {
+fn set_up(rt: &impl Print, chip: Chip, refusal: u8, line: &[u8]) -> io::Result<Chip> {
     if refusal != 0 {
-        return chip;
+        return Ok(chip);
     }
     let settings = settings::settings_of(line);
     let setup = settings.setup;
     let on = lent::power_again(chip, setup);
-    complain(on.refusal == 0);
-    on.chip
+    complain(rt, on.refusal == 0)?;
+    Ok(on.chip)
 }
 
 // The chip after what a line says, which has this refusal.
-fn step(chip: Chip, refusal: u8, line: &[u8]) -> Chip {
+fn step(rt: &impl Print, chip: Chip, refusal: u8, line: &[u8]) -> io::Result<Chip> {
     if parse::letter_of(line) == b'S' {
-        return set_up(chip, refusal, line);
+        return set_up(rt, chip, refusal, line);
     }
     let parsed = parse::event_of(line);
     let Parsed::Fine(event) = parsed else {
-        return chip;
+        return Ok(chip);
     };
     let mut carried = [0u8; BLOCK_MOST];
     let count = parse::data_of(line, &mut carried);
@@ -245,50 +250,57 @@ fn step(chip: Chip, refusal: u8, line: &[u8]) -> Chip {
     let moved_answer = moved.answer;
     let after = stepped.chip;
     let moved_after = moved.chip;
-    complain(same_answer(answer, moved_answer));
-    complain(same_block(answer, after, moved_after));
-    after
+    complain(rt, same_answer(answer, moved_answer))?;
+    complain(rt, same_block(answer, after, moved_after))?;
+    Ok(after)
 }
 
 // A setup out of range is refused by 1, and the chip stays.
-fn refuse(chip: Chip, setup: Setup) {
+fn refuse(rt: &impl Print, chip: Chip, setup: Setup) -> io::Result<()> {
     let on = lent::power_again(chip, setup);
     let after = on.chip;
-    complain(on.refusal == 1);
-    complain(same_chip(after, chip));
+    complain(rt, on.refusal == 1)?;
+    complain(rt, same_chip(after, chip))
 }
 
 // One whose duties fall, and one with an offset of 64.
-fn refuse_setups(chip: Chip) {
+fn refuse_setups(rt: &impl Print, chip: Chip) -> io::Result<()> {
     let mut falling = state::default_setup();
     falling.duties = [240, 64, 80, 96, 112, 128, 144, 160, 176, 192, 208, 224, 0];
-    refuse(chip, falling);
+    refuse(rt, chip, falling)?;
     let mut wide = state::default_setup();
     wide.offsets34 = [63, 63, 63, 63, 63, 63, 63, 63, 63, 63, 63, 64];
-    refuse(chip, wide);
+    refuse(rt, chip, wide)
 }
 
-fn write_first(out: &[u8], n: usize) {
+fn write_first(rt: &impl Print, out: &[u8], n: usize) -> io::Result<()> {
     if n <= out.len() {
-        print(&out[..n]);
+        print(rt, &out[..n])?;
     }
+    Ok(())
 }
 
-fn write_reply(number: u64, reply: Reply, out: &[u8; BLOCK_ROOM]) {
-    write_first(out, reply.length);
+fn write_reply(
+    rt: &impl Print,
+    number: u64,
+    reply: Reply,
+    out: &[u8; BLOCK_ROOM],
+) -> io::Result<()> {
+    write_first(rt, out, reply.length)?;
     let refusal = reply.refusal;
     if refusal != 0 {
         let mut refused = [0u8; ROOM];
         let n = text::write_refusal(&mut refused, number, refusal);
-        write_first(&refused, n);
+        write_first(rt, &refused, n)?;
     }
+    Ok(())
 }
 
 fn next_number(n: u64) -> u64 {
     if n < u64::MAX { n + 1 } else { n }
 }
 
-fn give(run: Run, line: &[u8]) -> Run {
+fn give(rt: &impl Print, run: Run, line: &[u8]) -> io::Result<Run> {
     let mut out = [0u8; BLOCK_ROOM];
     let mut moved_out = [0u8; BLOCK_ROOM];
     let held = run.held;
@@ -300,18 +312,18 @@ fn give(run: Run, line: &[u8]) -> Run {
     let session = taken.session;
     let moved_session = moved_taken.session;
     let after = session.chip;
-    let stepped = step(chip, reply.refusal, line);
-    write_reply(run.number, reply, &out);
-    complain(check::same(&out, &moved_out));
-    complain(same_reply(reply, moved_taken.reply));
-    complain(same_session(session, moved_session));
-    complain(same_chip(stepped, after));
-    Run {
+    let stepped = step(rt, chip, reply.refusal, line)?;
+    write_reply(rt, run.number, reply, &out)?;
+    complain(rt, out == moved_out)?;
+    complain(rt, same_reply(reply, moved_taken.reply))?;
+    complain(rt, same_session(session, moved_session))?;
+    complain(rt, same_chip(stepped, after))?;
+    Ok(Run {
         held: session,
         moved: moved_session,
         chip: stepped,
         number: next_number(run.number),
-    }
+    })
 }
 
 // ---- all lines
@@ -327,15 +339,15 @@ fn begin() -> Run {
     }
 }
 
-fn give_all(s: &[u8]) -> Run {
+fn give_all(rt: &impl Print, s: &[u8]) -> io::Result<Run> {
     let mut run = begin();
     let mut i = 0;
     while i < s.len() {
         let e = i + text::line_width(&s[i..]);
-        run = give(run, &s[i..e]);
+        run = give(rt, run, &s[i..e])?;
         i = e + 1;
     }
-    run
+    Ok(run)
 }
 
 // ---- the dump
@@ -353,56 +365,67 @@ fn behind(i: usize) -> u8 {
     if i % ROW == ROW - 1 { LINE_FEED } else { b' ' }
 }
 
-fn write_dump(bytes: &[u8]) {
+fn write_dump(rt: &impl Print, bytes: &[u8]) -> io::Result<()> {
     let mut i: usize = 0;
     while i < bytes.len() {
         let b = bytes[i];
-        print(&[hex_digit(b / 16), hex_digit(b), behind(i)]);
+        print(rt, &[hex_digit(b / 16), hex_digit(b), behind(i)])?;
         i += 1;
     }
+    Ok(())
 }
 
 // ---- the zones
 
-fn write_signed(n: i16) {
-    if n < 0 {
-        print(b"-");
-        io::print_decimal(STDOUT_FILENO, (0 - (n as i32)) as u64);
-    } else {
-        io::print_decimal(STDOUT_FILENO, n as u64);
-    }
+fn write_signed(rt: &impl Print, n: i16) -> io::Result<()> {
+    rt.print(n)
 }
 
 // A zone's reading in sixteenths.
-fn write_zone(zones: [Zone; 6], zone: u8) {
-    print(b" ");
+fn write_zone(rt: &impl Print, zones: [Zone; 6], zone: u8) -> io::Result<()> {
+    print(rt, b" ")?;
     match state::zone_at(zones, zone) {
-        Reading::Missing => print(b"-"),
-        Reading::Taken(n) => write_signed(n),
+        Reading::Missing => print(rt, b"-"),
+        Reading::Taken(n) => write_signed(rt, n),
     }
 }
 
-fn write_zones(zones: [Zone; 6]) {
-    print(b"zones");
-    write_zone(zones, 0);
-    write_zone(zones, 1);
-    write_zone(zones, 2);
-    write_zone(zones, 3);
-    write_zone(zones, 4);
-    write_zone(zones, 5);
-    print(b"\n");
+fn write_zones(rt: &impl Print, zones: [Zone; 6]) -> io::Result<()> {
+    print(rt, b"zones")?;
+    write_zone(rt, zones, 0)?;
+    write_zone(rt, zones, 1)?;
+    write_zone(rt, zones, 2)?;
+    write_zone(rt, zones, 3)?;
+    write_zone(rt, zones, 4)?;
+    write_zone(rt, zones, 5)?;
+    print(rt, b"\n")
 }
 
-fn main() {
+// Reads until the input is full or at its end, and answers how many bytes it has.
+fn read_full(reader: &mut impl Read, input: &mut [u8]) -> io::Result<usize>
+    ensures { IfOk result (λ n. n ≤ length input.new) }
+{
+    let mut done = 0;
+    while done < input.len() {
+        let n = reader.read(&mut input[done..])?;
+        if n == 0 {
+            break;
+        }
+        done += n;
+    }
+    Ok(done)
+}
+
+fn main(rt: HostRuntime) -> io::Result<()> {
     let mut input = [0u8; INPUT];
-    let n = io::read_full(STDIN_FILENO, &mut input);
-    let run = give_all(&input[..n]);
+    let n = read_full(&mut rt.stdin(), &mut input)?;
+    let run = give_all(&rt, &input[..n])?;
     let held = run.held;
     let chip = held.chip;
-    refuse_setups(chip);
+    refuse_setups(&rt, chip)?;
     let mut all = [0u8; REGISTERS];
     lent::dump(chip, &mut all);
-    write_dump(&all);
+    write_dump(&rt, &all)?;
     let zones = chip.zones;
-    write_zones(zones);
+    write_zones(&rt, zones)
 }

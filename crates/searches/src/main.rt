@@ -1,9 +1,12 @@
 // Runs the step search (document 02, Q-11) on cases, one a line: old step, reading in sixteenths and hysteresis, on the table that a line
 // before it gave.
 // It prints the case, the new step and how many thresholds the search compared. A line that begins with # is a title, and printed.
-ghost use Rattle.std.specs.Prelude.{◌<◌};
+#![tactic(auto)]
 
-use libc::{STDERR_FILENO, STDIN_FILENO, STDOUT_FILENO};
+ghost use Rattle.std.specs.Prelude.{◌<◌, ◌≤◌, IfOk, length};
+
+use std::io;
+use std::io::Read;
 use temperature::{DEGREE, Reading};
 use text::Number;
 
@@ -35,7 +38,7 @@ const OUT_OF_RANGE: u8 = 2;
 
 const SPELLING: u8 = 4;
 
-#[derive(Drop)]
+#[derive(Clone, Copy)]
 struct Table {
     base: i8,
     unit: u8,
@@ -176,21 +179,21 @@ fn offsets_of(line: &[u8]) -> Offsets {
 
 // ---- lines
 
-fn print(bytes: &[u8]) {
-    io::write_all(STDOUT_FILENO, bytes);
+fn print(rt: &impl Print, bytes: &[u8]) -> io::Result<()> {
+    rt.write_all(bytes)
 }
 
 // One column more.
-fn column(n: u64) {
-    print(b"\t");
-    io::print_decimal(STDOUT_FILENO, n);
+fn column(rt: &impl Print, n: u64) -> io::Result<()> {
+    print(rt, b"\t")?;
+    rt.print(n)
 }
 
-fn refuse(number: u64, refusal: u8) {
-    print(b"E");
-    column(number);
-    column(refusal as u64);
-    print(b"\n");
+fn refuse(rt: &impl Print, number: u64, refusal: u8) -> io::Result<()> {
+    print(rt, b"E")?;
+    column(rt, number)?;
+    column(rt, refusal as u64)?;
+    print(rt, b"\n")
 }
 
 // Table 1 without a setup.
@@ -205,40 +208,37 @@ fn first_table() -> Table {
 }
 
 // The table that a line gives, or the old one where the line is refused.
-fn take_table(old: Table, line: &[u8], number: u64) -> Table {
+fn take_table(rt: &impl Print, old: Table, line: &[u8], number: u64) -> io::Result<Table> {
     let Degrees::Of(base) = degrees_at(line, BASE) else {
-        refuse(number, OUT_OF_RANGE);
-        return old;
+        refuse(rt, number, OUT_OF_RANGE)?;
+        return Ok(old);
     };
     let Byte::Of(unit) = byte_at(line, UNIT) else {
-        refuse(number, OUT_OF_RANGE);
-        return old;
+        refuse(rt, number, OUT_OF_RANGE)?;
+        return Ok(old);
     };
     let given = offsets_of(line);
     if given.within {
         let offsets = given.offsets;
-        return Table {
+        return Ok(Table {
             base: base,
             unit: unit,
             offsets: offsets,
-        };
+        });
     }
-    refuse(number, OUT_OF_RANGE);
-    old
+    refuse(rt, number, OUT_OF_RANGE)?;
+    Ok(old)
 }
 
-fn take_case(table: Table, line: &[u8], number: u64) {
+fn take_case(rt: &impl Print, table: Table, line: &[u8], number: u64) -> io::Result<()> {
     let Byte::Of(old) = byte_at(line, OLD) else {
-        refuse(number, OUT_OF_RANGE);
-        return;
+        return refuse(rt, number, OUT_OF_RANGE);
     };
     let Given::Of(reading) = reading_at(line, READING) else {
-        refuse(number, OUT_OF_RANGE);
-        return;
+        return refuse(rt, number, OUT_OF_RANGE);
     };
     let Byte::Of(hysteresis) = byte_at(line, HYSTERESIS) else {
-        refuse(number, OUT_OF_RANGE);
-        return;
+        return refuse(rt, number, OUT_OF_RANGE);
     };
     let found = drive::new_step(
         table.base,
@@ -248,10 +248,10 @@ fn take_case(table: Table, line: &[u8], number: u64) {
         old,
         reading,
     );
-    print(line);
-    column(found.step as u64);
-    column(found.compared as u64);
-    print(b"\n");
+    print(rt, line)?;
+    column(rt, found.step as u64)?;
+    column(rt, found.compared as u64)?;
+    print(rt, b"\n")
 }
 
 fn is_title(line: &[u8]) -> bool {
@@ -262,49 +262,62 @@ fn is_title(line: &[u8]) -> bool {
 }
 
 // A line, and the table behind it.
-fn take(table: Table, line: &[u8], number: u64) -> Table {
+fn take(rt: &impl Print, table: Table, line: &[u8], number: u64) -> io::Result<Table> {
     if is_title(line) {
-        print(line);
-        print(b"\n");
-        return table;
+        print(rt, line)?;
+        print(rt, b"\n")?;
+        return Ok(table);
     }
     let fields = text::count_fields(line);
     if fields == TABLE_FIELDS {
         if all_spelt(line, TABLE_FIELDS) {
-            return take_table(table, line, number);
+            return take_table(rt, table, line, number);
         }
     }
     if fields == CASE_FIELDS {
         if all_spelt(line, CASE_FIELDS) {
-            take_case(table, line, number);
-            return table;
+            take_case(rt, table, line, number)?;
+            return Ok(table);
         }
     }
-    refuse(number, SPELLING);
-    table
+    refuse(rt, number, SPELLING)?;
+    Ok(table)
 }
 
-fn take_all(first: Table, s: &[u8]) {
+fn take_all(rt: &impl Print, first: Table, s: &[u8]) -> io::Result<()> {
     let mut table = first;
     let mut number: u64 = 1;
     let mut i = 0;
     while i < s.len() {
         let e = i + text::line_width(&s[i..]);
-        table = take(table, &s[i..e], number);
+        table = take(rt, table, &s[i..e], number)?;
         number += 1;
         i = e + 1;
     }
+    Ok(())
 }
 
-fn main() {
+// Reads until the input is full or at its end, and answers how many bytes it has.
+fn read_full(reader: &mut impl Read, input: &mut [u8]) -> io::Result<usize>
+    ensures { IfOk result (λ n. n ≤ length input.new) }
+{
+    let mut done = 0;
+    while done < input.len() {
+        let n = reader.read(&mut input[done..])?;
+        if n == 0 {
+            break;
+        }
+        done += n;
+    }
+    Ok(done)
+}
+
+fn main(rt: HostRuntime) -> io::Result<()> {
     let mut input = [0u8; INPUT];
-    let n = io::read_full(STDIN_FILENO, &mut input);
+    let n = read_full(&mut rt.stdin(), &mut input)?;
     if n <= INPUT_MOST {
-        take_all(first_table(), &input[..n]);
+        take_all(&rt, first_table(), &input[..n])
     } else {
-        io::write_all(
-            STDERR_FILENO,
-            b"searches: more than 32768 bytes on standard input\n",
-        );
+        rt.eprintln("searches: more than 32768 bytes on standard input")
     }
 }
