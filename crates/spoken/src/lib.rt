@@ -1,1 +1,2 @@
 // Theorems about lines of text, over the definitions that the code is proved to meet: no code, only specs/.
+#![tactic(auto)]

@@ -1,3 +1,2 @@
-#![tactic(auto)]
-
 // Theorems about the chip, over the definitions that the code is proved to meet: no code, only specs/.
+#![tactic(auto)]
