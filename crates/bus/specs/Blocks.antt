@@ -1,13 +1,10 @@
 -- What a block write keeps, and the parts of the chip that a block looks at. Assumes nothing.
-use Rattle.std.specs.Prelude.{◌≡◌, true, List, [], ◌∷◌, ℕ, suc, ◌+◌, ◌≤◌, ◌<◌, length, drop, get_or}
+use Rattle.std.specs.Prelude.{◌≡◌, List, [], ◌∷◌, ℕ, suc, ◌+◌, ◌≤◌, ◌<◌, length, drop, get_or}
 use Rattle.std.proofs.Math.Path.{refl, ap}
-use Rattle.std.proofs.Common.{sym, ◌∙◌, add-zero, zero-add, add-suc, suc-add, arith}
+use Rattle.std.proofs.Common.{sym, ◌∙◌, add-zero, add-suc, suc-add, arith}
 use Rattle.std.proofs.Math.Numerals.{add-one}
 use Rattle.laws.specs.Left.{left_some, left_none}
 use Rattle.laws.specs.TabEach.{tab_same}
-use Rattle.map.specs.declared.Block.{Block}
-use Rattle.map.specs.declared.Block.TheVariants.{Unlisted, Fixed}
-use Rattle.map.specs.Blocks.{block_of}
 use Rattle.state.specs.declared.Chip.{Chip}
 use Rattle.state.specs.declared.Zone.{Zone}
 use Rattle.state.specs.With.{with_registers, with_zones, with_register, with_zone}
@@ -15,12 +12,9 @@ use Rattle.state.specs.Made.{fresh, of_zones, of_readings}
 use Rattle.sense.specs.Events.{read_zone}
 use Rattle.bus.specs.declared.Change.{Change}
 use Rattle.bus.specs.declared.Change.TheVariants.{Nothing, Register, ZoneReading}
-use Rattle.bus.specs.Latch.{is_ours, transacted}
 use Rattle.bus.specs.Write.{change_of, changed, wrote_register, change_by_parts}
 use Rattle.bus.specs.Read.{shown_by_parts}
-use Rattle.bus.specs.Block.{block_place, block_for, block_bytes, counted_block, wrote_from, wrote_by, wrote_block}
-use Rattle.bus.specs.BlockAnswers.{for_listed, counted_is}
-use Rattle.bus.specs.BlockPart.{place_within}
+use Rattle.bus.specs.Block.{block_place, block_bytes, wrote_from}
 
 -- ---- what each byte write keeps, all of them keep
 
@@ -35,24 +29,6 @@ each_keeps R Q wrote c d first k (b ∷ bytes) told r =
 pub both_keep : (R : Chip → Chip → Type 0) → ((c d : Chip) (a byte : ℕ) → R c d → R (wrote_register c a byte) (wrote_register d a byte)) → (c d : Chip) (first k : ℕ) (bytes : List ℕ) → R c d → R (wrote_from c first k bytes) (wrote_from d first k bytes)
 both_keep R wrote c d first k bytes =
     each_keeps R (λ a byte. Unit {0}) (λ c d a byte t. wrote c d a byte) c d first k bytes (λ i h. tt)
-
--- so what a transaction as such and each byte write keep, a block write keeps
-module _ (c : Chip) (address command : ℕ) (bytes : List ℕ) (P : Chip → Type 0) where
-  -- where Q tells something of each byte and its register, if the block is acknowledged
-  pub block_keeps : (Q : ℕ → ℕ → Type 0) → ((first : ℕ) → is_ours (transacted c address).pin.latch address ≡ true → block_of command ≡ Fixed first (length bytes) → (i : ℕ) → i < length bytes → Q (first + i) (get_or bytes i 0)) → P (transacted c address) → ((d : Chip) (a byte : ℕ) → Q a byte → P d → P (wrote_register d a byte)) → P (wrote_block c address command bytes).chip
-  unfolding wrote_block wrote_by
-  block_keeps Q told p wrote = go (counted_block (length bytes) (block_for (transacted c address).pin.latch address command)) refl
-    where
-      go : (b : Block) → counted_block (length bytes) (block_for (transacted c address).pin.latch address command) ≡ b → P (wrote_by (transacted c address) b bytes).chip
-      go Unlisted e = p
-      go (Fixed first count) e =
-          let counted = counted_is (length bytes) _ e in
-          let ours = for_listed (transacted c address).pin.latch address command counted.1 in
-          each_keeps (λ d e. P d) Q (λ d e. wrote d) (transacted c address) (transacted c address) first 0 bytes (λ i h. rw (zero-add, place_within command ours.1 i (omega arith)) (told first ours.0 (rw counted.0 ours.1) i h)) p
-
-  pub block_cases : P (transacted c address) → ((d : Chip) (a byte : ℕ) → P d → P (wrote_register d a byte)) → P (wrote_block c address command bytes).chip
-  block_cases p wrote =
-      block_keeps (λ a byte. Unit {0}) (λ first ours listed i h. tt) p (λ d a byte t. wrote d a byte)
 
 -- ---- the parts that a block looks at: of a read the registers and the readings, of a write the registers and the zones
 

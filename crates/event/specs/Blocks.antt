@@ -16,7 +16,7 @@ use Rattle.bus.specs.Read.{read_byte}
 use Rattle.bus.specs.Dump.{shown_all}
 use Rattle.bus.specs.Block.{block_for, block_bytes, read_block, counted_block, wrote_by, wrote_block}
 use Rattle.bus.specs.BlockAnswers.{for_listed, counted_is, listed_block_read, listed_block_write}
-use Rattle.bus.specs.BlockPart.{block_at, block_read_part}
+use Rattle.bus.proofs.BlockPart.{block_at, block_read_part}
 use Rattle.bus.specs.KeptBytes.{read_present}
 use Rattle.event.specs.declared.Event.{Event}
 use Rattle.event.specs.declared.Event.TheVariants.{Temperature, Voltage, Fan, Hot, Pin, Tick, Reset, Write, Read, ReadBlock, WriteBlock}

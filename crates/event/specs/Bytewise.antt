@@ -13,7 +13,8 @@ use Rattle.bus.specs.Latch.{latch_by, latch_after, transacted_pin, is_ours, tran
 use Rattle.bus.specs.Write.{wrote_register, wrote_byte}
 use Rattle.bus.specs.Changes.{register_keeps_pin}
 use Rattle.bus.specs.Transactions.{after, after_all}
-use Rattle.bus.specs.Bytewise.{writes, block_bytewise}
+use Rattle.bus.specs.Bytewise.{writes}
+use Rattle.bus.proofs.Bytewise.{block_bytewise}
 use Rattle.event.specs.declared.Event.TheVariants.{Write, WriteBlock}
 use Rattle.event.specs.declared.Answer.{Answer}
 use Rattle.event.specs.declared.Answer.TheVariants.{Acknowledged}

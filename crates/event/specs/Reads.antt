@@ -18,7 +18,8 @@ use Rattle.bus.specs.Dump.{shown_all}
 use Rattle.bus.specs.Block.{block_bytes}
 use Rattle.bus.specs.BlockPart.{transacted_shown}
 use Rattle.bus.specs.Transactions.{ButLatchKept, but_latch_kept_self, read_keeps, held_same}
-use Rattle.bus.specs.ReadOn.{read_from, dump_is_reads, block_is_reads}
+use Rattle.bus.specs.ReadOn.{read_from}
+use Rattle.bus.proofs.ReadOn.{dump_is_reads, block_is_reads}
 use Rattle.event.specs.declared.Event.TheVariants.{Read, ReadBlock}
 use Rattle.event.specs.declared.Answer.{Answer}
 use Rattle.event.specs.declared.Answer.TheVariants.{Byte, NoByte, Block as BlockShown}

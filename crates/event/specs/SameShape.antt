@@ -18,8 +18,8 @@ use Rattle.state.specs.declared.Count.{Count}
 use Rattle.state.specs.Parts.{register_at, in_error}
 use Rattle.state.specs.With.{with_registers, with_pin, with_register, with_zone, with_volt, with_in_error, with_fan, with_hot_input}
 use Rattle.sense.specs.Missing.{missed}
-use Rattle.sense.specs.Marks.{erred_volt_marks, compared_fan_marks, zone_file_marks}
-use Rattle.sense.specs.Alerts.{missed_marks}
+use Rattle.sense.proofs.Marks.{erred_volt_marks, compared_fan_marks, zone_file_marks}
+use Rattle.sense.proofs.Alerts.{missed_marks}
 use Rattle.sense.specs.Events.{read_zone, zone_heard, took_temperature, fed_zone, fed_each, read_volt, took_voltage, took_fan, took_hot, took_pin, reset_file, took_reset}
 use Rattle.bus.specs.Latch.{transacted}
 use Rattle.bus.specs.declared.Change.{Change}
@@ -28,7 +28,7 @@ use Rattle.bus.specs.Write.{change_of, changed, wrote_register, wrote_byte}
 use Rattle.bus.specs.Read.{kept_chip, read_byte}
 use Rattle.bus.specs.KeptBytes.{kept_many}
 use Rattle.bus.specs.Block.{read_block, wrote_block}
-use Rattle.bus.specs.Blocks.{block_cases}
+use Rattle.bus.proofs.Blocks.{block_cases}
 use Rattle.bus.specs.Transactions.{read_cases, write_cases}
 use Rattle.event.specs.declared.Event.{Event}
 use Rattle.event.specs.declared.Event.TheVariants.{Temperature, Voltage, Fan, Hot, Pin as PinEvent, Tick, Reset, Write, Read, ReadBlock, WriteBlock}

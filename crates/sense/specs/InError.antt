@@ -9,18 +9,14 @@ use Rattle.std.proofs.Math.Dec.{ltb}
 use Rattle.laws.specs.Pick.{both, either}
 use Rattle.laws.specs.Both.{both_false, both_with_true, both_left, both_right, both_true}
 use Rattle.laws.specs.Pointwise.{pick_same}
-use Rattle.masks.specs.Masks.{volt_masked}
 use Rattle.state.specs.declared.Chip.{Chip}
 use Rattle.state.specs.declared.Count.{Count}
 use Rattle.state.specs.declared.Count.TheVariants.{Taken, Missing}
 use Rattle.state.specs.Parts.{in_error}
 use Rattle.state.specs.With.{with_zone, with_volt, with_in_error}
-use Rattle.state.specs.Order.{SameButZones}
 use Rattle.sense.specs.Errors.{low_limit, high_limit, is_outside, compared_volt}
 use Rattle.sense.specs.Hysteresis.{hysteresis_of, low_move, high_move, ends_error, erring_on, erring_after, erred_volt}
-use Rattle.sense.specs.Events.{read_zone, volt_reading, fed_zone, fed_each, read_volt, took_voltage}
-use Rattle.sense.specs.Marks.{VoltStands, volt_stands}
-use Rattle.sense.specs.ButZones.{but_self, zone_file_lem}
+use Rattle.sense.specs.Events.{read_zone, fed_zone, fed_each, read_volt, took_voltage}
 
 module _ (low high vh n : ℕ) where
   -- ---- a reading
@@ -140,37 +136,16 @@ zero_errors file i before (Taken n) z = rw (z, zero_erring (low_limit file i) (h
 -- ---- the register file after a reading
 
 module _ (file : List ℕ) (i : ℕ) (before : Bool) (n : ℕ) where
-  -- a reading that leaves the channel in error, and is not masked, has its bit standing in both groups
-  pub erring_stands : i < 16 → length file ≡ 256 → volt_masked file i ≡ false → erring_after file i before (Taken n) ≡ true → VoltStands (erred_volt file i before (Taken n)) i
-  unfolding erred_volt
-  erring_stands l long u e = rw e (volt_stands file i l u long)
-
   -- and one that does not sets none
   pub sound_sets_none : erring_after file i before (Taken n) ≡ false → erred_volt file i before (Taken n) ≡ file
   unfolding erred_volt
   sound_sets_none e = rw e
-
--- ---- V on the chip
-
--- the zone that a voltage feeds changes no register but those of the zones' error bits, and not whether a channel is in error
-fed_registers : (c : Chip) (channel : ℕ) (n : Count) → SameButZones c.registers (fed_zone c channel n).registers
-unfolding read_zone with_zone
-fed_registers c channel n =
-    fed_each (λ (d : Chip). SameButZones c.registers d.registers) c channel n (zone_file_lem c.registers 4 (volt_reading n)) (zone_file_lem c.registers 5 (volt_reading n)) (but_self c.registers)
 
 fed_erring : (c : Chip) (channel : ℕ) (n : Count) → (fed_zone c channel n).erring ≡ c.erring
 unfolding read_zone with_zone
 fed_erring c channel n = fed_each (λ (d : Chip). d.erring ≡ c.erring) c channel n refl refl refl
 
 module _ (c : Chip) (channel : ℕ) (n : Count) (l : channel < 16) where
-  pub volt_registers : SameButZones (erred_volt c.registers channel (in_error c channel) n) (took_voltage c channel n).registers
-  unfolding took_voltage read_volt with_volt with_in_error
-  volt_registers = rw (lt-ltb channel 16 l) (fed_registers _ channel n)
-
   pub volt_erring : length c.erring ≡ 16 → in_error (took_voltage c channel n) channel ≡ erring_after c.registers channel (in_error c channel) n
   unfolding took_voltage read_volt with_volt with_in_error in_error
   volt_erring long = rw (lt-ltb channel 16 l, fed_erring _ channel n) (get_or-set_same c.erring channel _ false (omega (arith, long)))
-
-  -- with VH 0 the registers are those of document 01's rule, but for the bit of a zone that is fed
-  pub zero_registers : hysteresis_of c.registers ≡ 0 → SameButZones (compared_volt c.registers channel n) (took_voltage c channel n).registers
-  zero_registers z = rw (zero_errors c.registers channel (in_error c channel) n z) at volt_registers

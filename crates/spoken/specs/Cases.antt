@@ -19,11 +19,8 @@ use Rattle.settings.specs.Settings.{setting_at, range_of, is_within, plain_of, r
 use Rattle.settings.specs.Cases.{zeros}
 use Rattle.line.specs.declared.Session.{Session}
 use Rattle.line.specs.Line.{start_session, asked_event, asked_settings, asked_other, asked_by, asked_text, begun_line, setup_line, event_line, judged_by, judged_line}
-use Rattle.line.specs.Session.{printed_from}
-use Rattle.theorems.specs.Alike.{AllNoHigher}
-use Rattle.spoken.specs.Lines.{answers_of, AllTaken, AllLinesAlike, same, hotter, none, more}
-use Rattle.spoken.specs.HotterLines.{demand_3_lines}
-use Rattle.spoken.specs.StatedLines.{States, reading_line, stated_line, halves_line, same as same_line, none as none-text, more as more-text, same_printed}
+use Rattle.spoken.specs.Lines.{AllTaken, AllLinesAlike, same, hotter, none, more}
+use Rattle.spoken.specs.StatedLines.{States, reading_line, stated_line}
 use Rattle.spoken.specs.TickLine.{K, tick_line}
 
 -- ---- the lines
@@ -57,11 +54,11 @@ text_of l = setup ∷ l ∷ write ∷ read ∷ K ∷ []
 -- ---- what they say
 
 -- of zone 1a
-warm_says : States warm 1 (Halves (pos 70))
+pub warm_says : States warm 1 (Halves (pos 70))
 unfolding event_by letter_of fields_of first_field other_fields field_at temperature_line pair_of spelled_stated number_at index_of decimal_of plus_of minus_of run_of all_digits is_digit value_of is_spelt
 warm_says = record { short = omega arith; says = refl }
 
-equal_says : States equal 1 (Sixteenths (pos 560))
+pub equal_says : States equal 1 (Sixteenths (pos 560))
 unfolding event_by letter_of fields_of first_field other_fields field_at temperature_line pair_of spelled_stated number_at index_of decimal_of plus_of minus_of run_of all_digits is_digit value_of is_spelt
 equal_says = record { short = omega arith; says = refl }
 
@@ -128,17 +125,3 @@ warmer_alike = text_alike warm_says warmer_says (taken tt)
 pub lost_alike : AllLinesAlike (text_of warmer) (text_of lost)
 unfolding stated_reading
 lost_alike = text_alike warmer_says lost_says missing
-
--- so the duties after K are at least as high in the second
-pub warmer_no_lower : AllNoHigher (answers_of start_session (text_of warm)) (answers_of start_session (text_of warmer))
-warmer_no_lower = demand_3_lines _ _ warmer_alike warm_all warmer_all
-
-pub lost_no_lower : AllNoHigher (answers_of start_session (text_of warmer)) (answers_of start_session (text_of lost))
-lost_no_lower = demand_3_lines _ _ lost_alike warmer_all lost_all
-
--- ---- a T of 70 and a U of 560 are the same
-
-pub equal_prints : printed_from start_session 1 (text_of warm) ≡ printed_from start_session 1 (text_of equal)
-equal_prints =
-    same_printed start_session 1
-    (more-text (same_line setup) (more-text (halves_line (pos 70) warm_says equal_says) (more-text (same_line write) (more-text (same_line read) (more-text (same_line K) none-text)))))

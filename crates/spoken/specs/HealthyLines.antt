@@ -14,7 +14,8 @@ use Rattle.line.specs.Line.{Judged, start_session, asked_text, refused_line, beg
 use Rattle.line.specs.Session.{session_after, printed_by}
 use Rattle.theorems.specs.Sensors.{Sensor, IsMissing, is_watched, is_masked, GivesTaken, bmc_register, host_register, error_bit, LooksBroken}
 use Rattle.theorems.specs.ShownBytes.{ShowsBit}
-use Rattle.theorems.specs.Unread.{power_unread, step_unread, unread_broken}
+use Rattle.theorems.specs.Unread.{power_unread}
+use Rattle.theorems.proofs.Unread.{step_unread, unread_broken}
 use Rattle.spoken.specs.TakenLine.{given_by}
 use Rattle.spoken.specs.SaidLines.{lines_sized}
 use Rattle.spoken.specs.TickLine.{K, tick_line}

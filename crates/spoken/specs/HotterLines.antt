@@ -21,7 +21,7 @@ use Rattle.line.specs.declared.Session.{Session}
 use Rattle.line.specs.Line.{Judged, start_session, begun_line, setup_line, event_line, judged_line}
 use Rattle.theorems.specs.Alike.{Alike, same as alike, hotter as alike-hotter, NoHigher, others, AllNoHigher, none as no-answers, more as more-answers}
 use Rattle.theorems.specs.Steps.{NotRefused}
-use Rattle.theorems.specs.Hotter.{Pair, power_pair, step, next}
+use Rattle.theorems.proofs.Hotter.{Pair, power_pair, step, next}
 use Rattle.spoken.specs.Lines.{answers_of, AllTaken, LinesAlike, AllLinesAlike, same, said, hotter, none, more}
 use Rattle.spoken.specs.Carried.{event_alone}
 use Rattle.spoken.specs.TakenLine.{given_by, Takes, event, setup, line_takes}

@@ -12,7 +12,8 @@ use Rattle.parse.specs.declared.Parsed.TheVariants.{Wrong}
 use Rattle.parse.specs.Parse.{letter_of, event_by, event_of}
 use Rattle.settings.specs.declared.Settings.{Settings}
 use Rattle.settings.specs.Settings.{refused_settings, settings_of}
-use Rattle.settings.specs.Before.{old_settings_of, Wide, meant_before, wide_refused, narrow_same}
+use Rattle.settings.specs.Before.{old_settings_of, Wide}
+use Rattle.settings.proofs.Before.{meant_before, wide_refused, narrow_same}
 use Rattle.line.specs.declared.Session.{Session}
 use Rattle.line.specs.declared.Asked.{Asked}
 use Rattle.line.specs.declared.Asked.TheVariants as asked

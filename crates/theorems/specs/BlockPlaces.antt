@@ -13,10 +13,11 @@ use Rattle.state.specs.declared.Chip.{Chip}
 use Rattle.state.specs.Parts.{register_at}
 use Rattle.state.specs.With.{with_register, with_zone}
 use Rattle.sense.specs.Events.{read_zone}
-use Rattle.sense.specs.ButZones.{zone_file_lem}
+use Rattle.sense.proofs.ButZones.{zone_file_lem}
 use Rattle.bus.specs.declared.Change.{Change}
 use Rattle.bus.specs.Write.{stored, cleared, change_of, changed, wrote_register}
-use Rattle.bus.specs.Changes.{Allowed, none, store, clear, zone, change_allowed}
+use Rattle.bus.specs.Changes.{Allowed, none, store, clear, zone}
+use Rattle.bus.proofs.Changes.{change_allowed}
 
 -- ---- the places of the blocks
 

@@ -18,7 +18,7 @@ use Rattle.state.specs.PowerOn.{power_on}
 use Rattle.state.specs.Valid.{Valid}
 use Rattle.sense.specs.IsSet.{set_eq}
 use Rattle.sense.specs.Missing.{missed}
-use Rattle.sense.specs.Alerts.{missed_marks}
+use Rattle.sense.proofs.Alerts.{missed_marks}
 use Rattle.sense.specs.Keeps.{missed_keeps}
 use Rattle.drive.specs.Tables.{asked_duty}
 use Rattle.drive.specs.Duties.{bound_largest, tables_ask, fan_duty}

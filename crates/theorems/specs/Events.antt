@@ -23,7 +23,8 @@ use Rattle.state.specs.With.{with_register, with_zone, with_volt, with_in_error,
 use Rattle.state.specs.Order.{DriveNoHigher, SameButZones}
 use Rattle.sense.specs.Missing.{missed}
 use Rattle.sense.specs.Events.{read_zone, zone_heard, took_temperature, feeds_three, feeds_four, fed_zone, read_volt, took_voltage, took_fan, took_hot, took_pin, took_reset}
-use Rattle.sense.specs.ButZones.{but_set, but_erring, but_erred, but_compared, but_reset, but_zone_file, but_missed_file}
+use Rattle.sense.specs.ButZones.{but_set, but_reset}
+use Rattle.sense.proofs.ButZones.{but_erring, but_erred, but_compared, but_zone_file, but_missed_file}
 use Rattle.bus.specs.declared.Change.{Change}
 use Rattle.bus.specs.Latch.{is_ours, transacted}
 use Rattle.bus.specs.Write.{stored_byte, stored, cleared_byte, cleared, zone_writable, change_whole, change_half, change_kind, is_shut, change_home, change_of, changed, wrote_register, Written, wrote_byte}

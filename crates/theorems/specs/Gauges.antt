@@ -13,9 +13,11 @@ use Rattle.state.specs.Parts.{no_gauge, volt_at, fan_at}
 use Rattle.state.specs.With.{with_zone, with_volt, with_in_error, with_fan}
 use Rattle.sense.specs.Missing.{missed}
 use Rattle.sense.specs.Events.{read_zone, fed_zone, fed_each, read_volt, took_voltage, took_fan}
-use Rattle.sense.specs.Keeps.{temperature_keeps, voltage_keeps, fan_keeps, hot_keeps, pin_keeps, reset_keeps, missed_keeps}
+use Rattle.sense.specs.Keeps.{hot_keeps, pin_keeps, reset_keeps, missed_keeps}
+use Rattle.sense.proofs.Keeps.{temperature_keeps, voltage_keeps, fan_keeps}
 use Rattle.laws.specs.Never.{never}
-use Rattle.bus.specs.Transactions.{write_keeps, read_keeps, read_block_keeps, write_block_lem, after, after_all, transactions_keep}
+use Rattle.bus.specs.Transactions.{write_keeps, read_keeps, read_block_keeps, write_block_lem, after, after_all}
+use Rattle.bus.proofs.Transactions.{transactions_keep}
 use Rattle.drive.specs.TickOrder.{tick_keeps}
 use Rattle.event.specs.declared.Event.{Event}
 use Rattle.event.specs.declared.Event.TheVariants.{Temperature, Voltage, Fan, Hot, Pin, Tick, Reset, Write, Read, ReadBlock, WriteBlock}

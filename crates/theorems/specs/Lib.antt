@@ -2,7 +2,6 @@ pub mod Alike
 pub mod Beside
 pub mod Events
 pub mod Steps
-pub mod Hotter
 pub mod HotterCases
 pub mod Taken
 pub mod Gauges

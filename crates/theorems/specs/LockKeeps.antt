@@ -7,10 +7,11 @@ use Rattle.state.specs.declared.Chip.{Chip}
 use Rattle.state.specs.Parts.{register_at}
 use Rattle.sense.specs.Missing.{missed}
 use Rattle.sense.specs.Marks.{Marks}
-use Rattle.sense.specs.Keeps.{temperature_keeps, voltage_keeps, fan_keeps, hot_keeps, pin_keeps}
-use Rattle.sense.specs.Alerts.{missed_marks}
+use Rattle.sense.specs.Keeps.{hot_keeps, pin_keeps}
+use Rattle.sense.proofs.Keeps.{temperature_keeps, voltage_keeps, fan_keeps}
+use Rattle.sense.proofs.Alerts.{missed_marks}
 use Rattle.bus.specs.Transactions.{write, write_block_lem, after, after_all, read_keeps, read_block_keeps}
-use Rattle.bus.specs.Locked.{all_locked}
+use Rattle.bus.proofs.Locked.{all_locked}
 use Rattle.drive.specs.TickOrder.{tick_keeps}
 use Rattle.event.specs.declared.Event.{Event}
 use Rattle.event.specs.declared.Event.TheVariants.{Temperature, Voltage, Fan, Hot, Pin, Tick, Reset, Write, Read, ReadBlock, WriteBlock}

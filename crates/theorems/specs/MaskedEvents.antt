@@ -29,7 +29,8 @@ use Rattle.state.specs.declared.Count.{Count}
 use Rattle.state.specs.Parts.{register_at, in_error}
 use Rattle.state.specs.With.{with_register, with_zone, with_volt, with_in_error, with_fan}
 use Rattle.sense.specs.Events.{read_zone, zone_heard, took_temperature, volt_reading, fed_zone, fed_each, read_volt, took_voltage, took_fan, took_reset}
-use Rattle.sense.specs.Marks.{Status, erred_volt_marks}
+use Rattle.sense.specs.Marks.{Status}
+use Rattle.sense.proofs.Marks.{erred_volt_marks}
 use Rattle.sense.specs.Keeps.{reset_other}
 use Rattle.sense.specs.MaskedBits.{NoNew, none_same, none_then}
 use Rattle.bus.specs.declared.Change.{Change}
@@ -37,7 +38,7 @@ use Rattle.bus.specs.Latch.{transacted}
 use Rattle.bus.specs.Write.{stored, cleared_byte, cleared, zone_writable, change_whole, change_half, change_kind, is_shut, change_home, change_of, changed, wrote_register, wrote_byte}
 use Rattle.bus.specs.Transactions.{write_cases}
 use Rattle.bus.specs.Block.{wrote_block}
-use Rattle.bus.specs.Blocks.{block_keeps}
+use Rattle.bus.proofs.Blocks.{block_keeps}
 use Rattle.theorems.specs.ShownBytes.{status_kind}
 use Rattle.theorems.specs.BlockPlaces.{write_leaves}
 use Rattle.theorems.specs.Sensors.{Sensor, is_masked, error_place}

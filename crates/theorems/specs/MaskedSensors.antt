@@ -18,7 +18,8 @@ use Rattle.sense.specs.Errors.{marked_volt, marked_fan, low_limit, high_limit, f
 use Rattle.sense.specs.Hysteresis.{erring_after, erred_volt}
 use Rattle.sense.specs.ZoneLimits.{zone_number, low_temp, high_temp, zone_watched, is_beyond, marked_zone, compared_zone, zone_file}
 use Rattle.sense.specs.Missing.{volt_watched, fan_watched, missed_volt, missed_fan, missed_zone, missed_volts, missed_fans, missed_zones, missed_file, missed}
-use Rattle.sense.specs.Marks.{Marks, Status, missed_volts_marks, missed_fans_marks, missed_zones_marks}
+use Rattle.sense.specs.Marks.{Marks, Status}
+use Rattle.sense.proofs.Marks.{missed_volts_marks, missed_fans_marks, missed_zones_marks}
 use Rattle.sense.specs.Alerts.{marks_masks}
 use Rattle.sense.specs.MaskedBits.{NoNew, none_same, none_then, marked_none}
 use Rattle.theorems.specs.Sensors.{Sensor, volt, fan, zone, is_masked, bmc_register, host_register, error_place}

@@ -26,8 +26,6 @@ use Rattle.event.specs.Run.{Given, chip_after}
 use Rattle.event.specs.Ticking.{tick_shown, tick_answers}
 use Rattle.theorems.specs.ShownBytes.{Shows}
 use Rattle.theorems.specs.Zones.{zone_of, ZoneMissing}
-use Rattle.theorems.specs.Sensors.{zone, IsMissing}
-use Rattle.theorems.specs.Healthy.{NeverRead, unread_missing}
 use Rattle.theorems.specs.FollowedZones.{followed_tells}
 use Rattle.theorems.specs.BoundTables.{missing_duty}
 
@@ -83,11 +81,3 @@ pub missing_full : (s : Setup) → (powered_on s).refusal ≡ 0 → (gs : List G
     → FullDuty (chip_after (power_on s) gs) fan
 missing_full s v gs fan table f t bound off m =
     full_duty (chip_after (power_on s) gs) fan f (missing_duty s (powered_valid s v) gs fan table t bound off m)
-
--- ---- until when it is missing
-
--- From power-on a zone is missing until a T or U that is heard, a V above 0 that feeds it, a whole-byte write other than 80h that takes effect,
--- or a block write one of whose bytes is such a write.
-pub missing_until : (s : Setup) (z : ℕ) (l : z < 6) (gs : List Given) → NeverRead (zone z l) (power_on s) gs → zone_at (chip_after (power_on s) gs) z ≡ Missing
-unfolding IsMissing
-missing_until s z l gs u = unread_missing (zone z l) s gs u

@@ -6,7 +6,7 @@ use Rattle.map.specs.Bits.{is_set}
 use Rattle.map.specs.Blocks.{block_of}
 use Rattle.state.specs.declared.Chip.{Chip}
 use Rattle.bus.specs.Read.{shown_register}
-use Rattle.bus.specs.BlockPart.{block_at, block_part}
+use Rattle.bus.proofs.BlockPart.{block_at, block_part}
 use Rattle.event.specs.Blocks.{shown_for, shown_part}
 use Rattle.theorems.specs.Sensors.{BlocksShow}
 

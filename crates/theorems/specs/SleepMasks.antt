@@ -1,22 +1,18 @@
 -- Document 02, Q-12: what is masked gets no bit from any event, and neither ALERT nor the count depends on its bits. In S0 nothing is masked;
 -- in S3 the channels 1 to 11 and 15 are, and those of 12 to 14 whose bit of E9h is set. Channels count from 0 here. Assumes nothing.
 use Rattle.std.specs.Prelude.{◌≡◌, refl, ◌≢◌, true, false, List, ℕ, ◌+◌, ◌-◌, ◌/◌, ◌%◌, ◌^◌, ◌≤◌, ◌<◌, T, get_or}
-use Rattle.std.proofs.Common.{sym, ◌∙◌, arith}
-use Rattle.std.specs.Float.Ieee.Bits.{is_true}
-use Rattle.laws.specs.Never.{never}
 use Rattle.map.specs.Bits.{is_set}
 use Rattle.map.specs.Tables.{defaults}
-use Rattle.map.specs.Names.{B_ERROR_STATUS_1, B_ERROR_STATUS_2, B_ERROR_STATUS_3, B_FAN_ERROR_STATUS, CONFIGURATION, S3_TEMPERATURE_VOLTAGE_MASK}
+use Rattle.map.specs.Names.{B_ERROR_STATUS_2, B_ERROR_STATUS_3, S3_TEMPERATURE_VOLTAGE_MASK}
 use Rattle.masks.specs.declared.SleepState.TheVariants.{S0, S3}
-use Rattle.masks.specs.Table.{in_S0, in_S3}
-use Rattle.masks.specs.Masks.{state_by, sleep_state, volt_masked}
+use Rattle.masks.specs.Table.{in_S0}
+use Rattle.masks.specs.Masks.{state_by, sleep_state}
 use Rattle.state.specs.declared.Chip.{Chip}
 use Rattle.state.specs.declared.Setup.{Setup}
 use Rattle.state.specs.PowerOn.{power_on}
 use Rattle.sense.specs.Missing.{missed}
 use Rattle.sense.specs.Keeps.{hot_keeps, pin_keeps}
-use Rattle.sense.specs.Standing.{errors_standing, alert_active}
-use Rattle.sense.specs.MaskedBits.{NoNew, none_same, SameUnmasked, errors_same, alert_same}
+use Rattle.sense.specs.MaskedBits.{NoNew, none_same}
 use Rattle.sense.specs.ZoneLimits.{zone_number}
 use Rattle.bus.specs.Transactions.{read_keeps, read_block_keeps}
 use Rattle.drive.specs.TickOrder.{tick_keeps}
@@ -80,34 +76,8 @@ pub data Off (file : List ℕ) : ℕ → Type 0 where
   by_bit : {i : ℕ} → 11 ≤ i → i < 14 → T (is_set (get_or file S3_TEMPERATURE_VOLTAGE_MASK 0) (2 ^ (i - 11))) → Off file i
   fifteen : Off file 14
 
-off_masked : {file : List ℕ} {i : ℕ} → sleep_state file ≡ S3 → Off file i → volt_masked file i ≡ true
-off_masked {file} {i} e (first l) = (in_S3 file e).0.first i l
-off_masked {file} {i} e (by_bit l h t) = (in_S3 file e).0.by_bit i l h ∙ is_true _ t
-off_masked {file} e fifteen = (in_S3 file e).0.fifteen
-
--- in S3 they get no bit from any event
-pub off_gets_none : (c : Chip) → sleep_state c.registers ≡ S3 → {i : ℕ} (l : i < 16) → Off c.registers i → (g : Given) → GetsNone (volt i l) c (given_step c g).chip
-unfolding is_masked
-off_gets_none c e l o g = masked_gets_none (volt _ l) c (off_masked e o) g
-
 -- and neither ALERT nor the count depends on their bits: two register files that are alike but for those, in S3
 pub record AlikeButOff (f g : List ℕ) : Type 0 where
   pub asleep : sleep_state f ≡ S3
   pub others : (a : ℕ) → a ≢ B_ERROR_STATUS_2 → a ≢ B_ERROR_STATUS_3 → get_or f a 0 ≡ get_or g a 0
   pub bits : (i : ℕ) → i < 16 → (Off f i → ⊥) → is_set (get_or f (B_ERROR_STATUS_2 + i / 8) 0) (2 ^ (i % 8)) ≡ is_set (get_or g (B_ERROR_STATUS_2 + i / 8) 0) (2 ^ (i % 8))
-
-pub off_not_counted : {f g : List ℕ} → AlikeButOff f g → (errors_standing f ≡ errors_standing g) × (alert_active f ≡ alert_active g)
-off_not_counted {f} {g} s = (errors_same unmasked, alert_same unmasked)
-  where
-    -- one that is not masked is not off
-    on : (i : ℕ) → volt_masked f i ≡ false → Off f i → ⊥
-    on i u o = let q = sym (off_masked s.asleep o) ∙ u in never (cc)
-
-    unmasked : SameUnmasked f g
-    unmasked = record {
-      masks = record { each = λ a l h. s.others a (λ e. omega arith) (λ e. omega arith) };
-      configuration = s.others CONFIGURATION (λ e. omega arith) (λ e. omega arith);
-      volts = λ i l u. s.bits i l (on i u);
-      fans = λ i l u. rw (s.others B_FAN_ERROR_STATUS (λ e. omega arith) (λ e. omega arith));
-      zones = λ i l u. rw (s.others B_ERROR_STATUS_1 (λ e. omega arith) (λ e. omega arith));
-    }

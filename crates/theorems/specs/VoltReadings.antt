@@ -21,10 +21,12 @@ use Rattle.state.specs.Parts.{register_at, in_error}
 use Rattle.state.specs.Order.{SameButZones}
 use Rattle.sense.specs.Errors.{low_limit, high_limit, is_outside, compared_volt}
 use Rattle.sense.specs.Hysteresis.{hysteresis_of, ends_error, erring_after, erred_volt}
-use Rattle.sense.specs.InError.{outside_starts, ended_by, unended_holds, inside_was, erring_stands, sound_sets_none, volt_registers, volt_erring, zero_registers}
+use Rattle.sense.specs.InError.{outside_starts, ended_by, unended_holds, inside_was, sound_sets_none, volt_erring}
+use Rattle.sense.proofs.InError.{erring_stands, volt_registers, zero_registers}
 use Rattle.sense.specs.Events.{took_voltage}
-use Rattle.sense.specs.Keeps.{voltage_keeps, fan_keeps}
-use Rattle.sense.specs.Marks.{Status, VoltStands, erred_volt_marks}
+use Rattle.sense.proofs.Keeps.{voltage_keeps, fan_keeps}
+use Rattle.sense.specs.Marks.{Status, VoltStands}
+use Rattle.sense.proofs.Marks.{erred_volt_marks}
 use Rattle.sense.specs.ButZones.{but_masks, volt_stands_but}
 use Rattle.sense.specs.Alerts.{Alerts, volt_alerts, marks_masks}
 use Rattle.event.specs.declared.Event.{Event}

@@ -16,7 +16,7 @@ use Rattle.state.specs.Parts.{no_gauge, no_kept, fan_at, kept_at}
 use Rattle.state.specs.With.{with_fan}
 use Rattle.state.specs.PowerOn.{power_on}
 use Rattle.sense.specs.Events.{took_fan}
-use Rattle.sense.specs.Keeps.{voltage_keeps}
+use Rattle.sense.proofs.Keeps.{voltage_keeps}
 use Rattle.bus.specs.Read.{fan_word, low_byte, high_byte}
 use Rattle.bus.specs.KeptBytes.{count_bytes}
 use Rattle.event.specs.declared.Event.{Event}
@@ -26,7 +26,8 @@ use Rattle.event.specs.Event.{count_in, index_in, event_in, quiet_step, taken_st
 use Rattle.event.specs.Run.{Given, given_step, chip_after}
 use Rattle.event.specs.Refusal.{taken_in, step_cases}
 use Rattle.event.specs.Reached.{run_keeps, reached_sized}
-use Rattle.event.specs.NotTorn.{NoneReads, not_torn, unkept_present, high_drops}
+use Rattle.event.specs.NotTorn.{NoneReads}
+use Rattle.event.proofs.NotTorn.{not_torn, unkept_present, high_drops}
 use Rattle.theorems.specs.Gauges.{Gives, volt, fan as fan-count, neither, gives}
 
 -- ---- every fan count that is reached has 14 bits

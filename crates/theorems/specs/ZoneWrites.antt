@@ -23,7 +23,7 @@ use Rattle.bus.specs.declared.Change.{Change}
 use Rattle.bus.specs.Latch.{is_ours, transacted}
 use Rattle.bus.specs.Write.{stored, cleared, zone_writable, change_whole, change_half, change_kind, is_shut, change_home, change_of, changed, wrote_register, Written, wrote_byte}
 use Rattle.bus.specs.Block.{wrote_block}
-use Rattle.bus.specs.Blocks.{block_keeps}
+use Rattle.bus.proofs.Blocks.{block_keeps}
 use Rattle.theorems.specs.Zones.{source_of, lock_of, Reaches}
 use Rattle.theorems.specs.BlockPlaces.{Apart, blocks_apart, write_leaves}
 

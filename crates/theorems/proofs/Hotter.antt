@@ -10,7 +10,8 @@ use Rattle.event.specs.Run.{Given, given_step, answers_to}
 use Rattle.event.specs.Lasting.{setup_kept}
 use Rattle.theorems.specs.Alike.{Alike, AllAlike, none, more, NoneRefused, AllNoHigher}
 use Rattle.theorems.specs.Beside.{Under, under_self}
-use Rattle.theorems.specs.Steps.{NotRefused, Rises, steps_rise}
+use Rattle.theorems.specs.Steps.{NotRefused, Rises}
+use Rattle.theorems.proofs.Steps.{steps_rise}
 
 -- what alike events keep of two chips: the setup is taken, and the first chip is no hotter
 pub record Pair (c d : Chip) : Type 0 where

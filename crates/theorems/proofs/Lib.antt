@@ -1,0 +1,11 @@
+pub mod ZoneReadings
+pub mod Unread
+pub mod Healthy
+pub mod HeldReadings
+pub mod Hotter
+pub mod HotterCases
+pub mod MissingZones
+pub mod SleepMasks
+pub mod Steps
+pub mod UnreadFans
+pub mod HeldErrors
