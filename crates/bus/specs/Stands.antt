@@ -8,7 +8,6 @@ use Rattle.std.proofs.Math.Pow.{pow-lt}
 use Rattle.laws.specs.Masks.{one_bit, none_part, stands_without}
 use Rattle.map.specs.Bits.{is_set}
 use Rattle.bus.specs.Write.{cleared_byte}
-use Rattle.bus.specs.Changes.{none}
 
 -- a written 0 keeps
 pub cleared_keeps : (old writable byte k : ℕ) → byte < 256 → k < 8 → T (is_set old (2 ^ k)) → (T (is_set byte (2 ^ k)) → ⊥) → T (is_set (cleared_byte old writable byte) (2 ^ k))

@@ -2,11 +2,9 @@
 -- the definitions that the code is proved to meet. negsuc n is -(n + 1). Zones, channels and fans count from 0. Assumes nothing.
 use Rattle.std.specs.Prelude.{◌≡◌, refl, pos, negsuc}
 use Rattle.map.specs.Tables.{defaults}
-use Rattle.temperature.specs.declared.Reading.TheVariants as reading
 use Rattle.temperature.specs.declared.Stated.TheVariants.{Halves, Sixteenths}
 use Rattle.temperature.specs.Temperature.{stated_reading}
 use Rattle.temperature.specs.Cases as temperature
-use Rattle.state.specs.declared.Boost.TheVariants as boost
 use Rattle.state.specs.Parts.{register_at}
 use Rattle.state.specs.With.{with_register}
 use Rattle.state.specs.PowerOn.{default_setup, power_on, at_rest}

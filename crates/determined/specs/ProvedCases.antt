@@ -5,7 +5,6 @@ use Rattle.temperature.specs.declared.Reading.TheVariants as reading
 use Rattle.temperature.specs.declared.Stated.{Stated}
 use Rattle.temperature.specs.declared.Stated.TheVariants.{Halves, Sixteenths}
 use Rattle.temperature.specs.Temperature.{HALF, DEGREE, whole_byte, reading_of, hotter_of}
-use Rattle.temperature.specs.Cases as temperature
 use Rattle.temperature.specs.Cases.{Shows, T, U}
 use Rattle.state.specs.declared.Chip.{Chip}
 use Rattle.state.specs.declared.Boost.TheVariants as boost
@@ -18,21 +17,17 @@ use Rattle.sense.specs.Errors.{fan_limit_at}
 use Rattle.sense.specs.Missing.{missed}
 use Rattle.sense.specs.Standing.{errors_standing, alert_active}
 use Rattle.sense.specs.Events.{took_temperature, took_voltage, took_pin, took_reset}
-use Rattle.sense.specs.Cases as sense
 use Rattle.bus.specs.Write.{wrote_register}
 use Rattle.bus.specs.Read.{Byte, read_byte}
-use Rattle.bus.specs.Cases as bus
 use Rattle.drive.specs.declared.Searched.{Searched}
 use Rattle.drive.specs.Tables.{table_from, table_of, new_step}
 use Rattle.drive.specs.Search.{searched}
 use Rattle.drive.specs.Boosts.{is_boosted}
-use Rattle.drive.specs.Cases as drive
 use Rattle.drive.specs.Cases.{tall}
 use Rattle.event.specs.declared.Event.TheVariants.{Temperature, WriteBlock}
 use Rattle.event.specs.Event.{refusal_of}
 use Rattle.event.specs.Run.{answers_to}
 use Rattle.event.specs.Session.{session, answers}
-use Rattle.settings.specs.Cases as settings
 use Rattle.settings.specs.Cases.{refused_with, old_refused_with}
 use Rattle.line.specs.Line.{start_session}
 use Rattle.line.specs.Session.{printed_from}

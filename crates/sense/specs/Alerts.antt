@@ -10,7 +10,6 @@ use Rattle.map.specs.Bits.{is_set}
 use Rattle.map.specs.Names.{TEMPERATURE_SOURCE_SELECT, B_ERROR_STATUS_1, B_ERROR_STATUS_2, B_FAN_ERROR_STATUS, ZONE_1_LOW_TEMP, AD_IN1_LOW_LIMIT, FAN_TACH_1_LIMIT_LSB, CONFIGURATION, GMSK}
 use Rattle.masks.specs.Masks.{zone_masked, volt_masked, fan_masked}
 use Rattle.masks.specs.Table.{SameMasks}
-use Rattle.temperature.specs.declared.Reading.TheVariants as reading
 use Rattle.sense.specs.Errors.{low_limit, high_limit, fan_limit, fan_limit_at}
 use Rattle.sense.specs.ZoneLimits.{zone_number, low_temp, high_temp, zone_watched}
 use Rattle.sense.specs.Standing.{zone_counts, volt_counts, fan_counts, errors_standing, alert_active}

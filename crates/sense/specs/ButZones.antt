@@ -9,7 +9,6 @@ use Rattle.std.proofs.Math.Decide.{ℕ_discrete}
 use Rattle.laws.specs.Store.{set_related}
 use Rattle.map.specs.Names.{B_ERROR_STATUS_1, B_ERROR_STATUS_2, H_ERROR_STATUS_1, H_ERROR_STATUS_2, CONFIGURATION, SLEEP_STATE_CONTROL}
 use Rattle.masks.specs.Table.{SameMasks}
-use Rattle.temperature.specs.declared.Reading.TheVariants as reading
 use Rattle.state.specs.Order.{SameButZones}
 use Rattle.sense.specs.Events.{reset_file}
 use Rattle.sense.specs.Marks.{VoltStands}

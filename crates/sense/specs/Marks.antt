@@ -8,7 +8,6 @@ use Rattle.laws.specs.Pick.{pick}
 use Rattle.laws.specs.Store.{set_cases}
 use Rattle.map.specs.Bits.{is_set}
 use Rattle.map.specs.Names.{B_ERROR_STATUS_1, B_ERROR_STATUS_2, B_FAN_ERROR_STATUS, H_ERROR_STATUS_1, H_ERROR_STATUS_2, H_FAN_ERROR_STATUS}
-use Rattle.temperature.specs.declared.Reading.TheVariants as reading
 use Rattle.sense.specs.Errors.{with_bit}
 use Rattle.sense.specs.ZoneLimits.{zone_number}
 use Rattle.sense.specs.IsSet.{set_new, set_stays}

@@ -2,7 +2,6 @@
 -- where what is written on the bus are bytes. Assumes nothing.
 use Rattle.std.specs.Prelude.{◌≡◌, ℕ, ◌<◌, get_or}
 use mathlib.Core.List.{List, [], ◌∷◌}
-use Rattle.state.specs.declared.Count.TheVariants as count
 use Rattle.event.specs.declared.Event.TheVariants.{Write}
 use Rattle.event.specs.Run.{Given}
 

@@ -1,5 +1,5 @@
 -- What events leave of the error bits of a sensor that is masked: none of them is new. Assumes nothing.
-use Rattle.std.specs.Prelude.{◌≡◌, Bool, not, List, ℕ, ◌+◌, ◌-◌, ◌^◌, ◌≤◌, ◌<◌, ltb, get_or}
+use Rattle.std.specs.Prelude.{◌≡◌, Bool, not, List, ℕ, ◌+◌, ◌^◌, ◌≤◌, ◌<◌, ltb, get_or}
 use Rattle.std.proofs.Math.Path.{refl}
 use Rattle.std.proofs.Common.{sym, ap, subst, ◌∙◌, arith, ltb→lt, get_or-set_other}
 use Rattle.std.proofs.Math.Bool.{true, false}
@@ -29,7 +29,6 @@ use Rattle.state.specs.declared.Count.{Count}
 use Rattle.state.specs.Parts.{register_at, in_error}
 use Rattle.state.specs.With.{with_register, with_zone, with_volt, with_in_error, with_fan}
 use Rattle.sense.specs.Events.{read_zone, zone_heard, took_temperature, volt_reading, fed_zone, fed_each, read_volt, took_voltage, took_fan, took_reset}
-use Rattle.sense.specs.Marks.{Status}
 use Rattle.sense.proofs.Marks.{erred_volt_marks}
 use Rattle.sense.specs.Keeps.{reset_other}
 use Rattle.sense.specs.MaskedBits.{NoNew, none_same, none_then}

@@ -8,7 +8,7 @@ use Rattle.state.specs.declared.Count.TheVariants.{Missing}
 use Rattle.state.specs.Parts.{no_gauge, volt_at, fan_at}
 use Rattle.state.specs.PowerOn.{power_on}
 use Rattle.theorems.specs.ZoneReadings.{power_lost}
-use Rattle.theorems.specs.Sensors.{Sensor, volt, fan, zone, IsMissing, count}
+use Rattle.theorems.specs.Sensors.{Sensor, volt, fan, zone, IsMissing}
 
 -- at power-on there is none
 pub power_unread : (x : Sensor) (s : Setup) → IsMissing x (power_on s)

@@ -1,7 +1,7 @@
 -- A fan that was never read shows no count, to byte reads as in the dump and in blocks, whatever its kept byte. Fans count from 0.
 -- Assumes nothing.
 use Rattle.std.specs.Prelude.{ℕ}
-use Rattle.map.specs.FanBytes.{low, high, low_place, high_place}
+use Rattle.map.specs.FanBytes.{low_place, high_place}
 use Rattle.state.specs.declared.Chip.{Chip}
 use Rattle.theorems.specs.ShownBytes.{Shows}
 

@@ -1,6 +1,6 @@
 -- What byte writes and block writes leave of a zone: what its reading has, P, it has behind them, if what they give it has it and if a written
 -- half bit leaves it. Assumes nothing.
-use Rattle.std.specs.Prelude.{◌≡◌, Bool, true, false, not, List, ℕ, ◌+◌, ◌-◌, ◌<◌, T, length, get_or}
+use Rattle.std.specs.Prelude.{◌≡◌, Bool, true, false, not, List, ℕ, ◌+◌, ◌<◌, T, length, get_or}
 use Rattle.std.proofs.Math.Path.{refl}
 use Rattle.std.proofs.Common.{ap, ◌∙◌, arith}
 use Rattle.laws.specs.Pick.{pick}
