@@ -1,2 +1,2 @@
-// Theorems about lines of text, over the definitions that the code is proved to meet: no code, only specs/.
+// Theorems about lines of text, over the definitions that the code is proved to meet: no code, only specs/ and proofs/.
 #![tactic(auto)]

@@ -42,6 +42,6 @@ does_nothing e = never (fourth_errors _ (ap (λ (l : List Answer). get_or l 8 No
 pub first_tick_only : (t u : Tick) → u.duty1 ≡ t.duty1 → answer 1 ≡ Ticked t → answer 4 ≡ Ticked u → ⊥
 first_tick_only t u d e f = omega (arith, first_duty t e, second_duty u f)
 
--- "so does a made_up error count at the fourth": any number but the definition's
+-- "so does a made-up error count at the fourth": any number but the definition's
 pub made_up_errors : (t : Tick) → (t.errors ≡ 1 → ⊥) → answer 9 ≡ Ticked t → ⊥
 made_up_errors t made_up e = made_up (fourth_errors t e)
