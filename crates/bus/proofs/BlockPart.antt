@@ -6,8 +6,7 @@ use native.Mathlib.Omega.{arith}
 use Rattle.std.proofs.Math.ListN.{length, length-drop}
 use Rattle.std.proofs.Math.Seq.{get_or-drop, ext_get_or}
 use Rattle.laws.specs.Tab.{tab_at}
-use Rattle.map.specs.declared.Block.TheVariants.{Fixed}
-use Rattle.map.specs.Blocks.{block_of, block_within}
+use Rattle.map.specs.Blocks.{fixed, block_of, block_within}
 use Rattle.state.specs.declared.Chip.{Chip}
 use Rattle.bus.specs.Latch.{transacted}
 use Rattle.bus.specs.Read.{shown_register}
@@ -16,7 +15,7 @@ use Rattle.bus.specs.Block.{block_place, block_bytes, read_block}
 use Rattle.bus.specs.BlockAnswers.{for_listed}
 use Rattle.bus.specs.BlockPart.{block_long, transacted_shown}
 
-module _ (command : ℕ) {first count : ℕ} (listed : block_of command ≡ Fixed first count) where
+module _ (command : ℕ) {first count : ℕ} (listed : block_of command ≡ fixed first count) where
   -- byte k stands in the register first + k
   pub place_within : (k : ℕ) → k < count → block_place first k ≡ first + k
   unfolding block_place
@@ -40,7 +39,7 @@ module _ (command : ℕ) {first count : ℕ} (listed : block_of command ≡ Fixe
 -- a transaction as such changes nothing of the dump; so a block read shows the part of the dump, of the chip that it finds and of the one
 -- that it leaves
 module _ (c : Chip) (address : ℕ) where
-  pub block_read_part : (command : ℕ) {first count : ℕ} → (read_block c address command).block ≡ Fixed first count → block_bytes (read_block c address command).chip first count ≡ take count (drop first (shown_all c))
+  pub block_read_part : (command : ℕ) {first count : ℕ} → (read_block c address command).block ≡ fixed first count → block_bytes (read_block c address command).chip first count ≡ take count (drop first (shown_all c))
   unfolding read_block
   block_read_part command e =
       block_part command (for_listed (transacted c address).pin.latch address command e).1 (transacted c address) ∙ rw transacted_shown

@@ -8,8 +8,7 @@ use Rattle.laws.specs.Every.{every, every_at}
 use Rattle.laws.specs.Never.{never}
 use Rattle.laws.specs.Tab.{tab}
 use Rattle.laws.specs.TabEach.{tab_same}
-use Rattle.map.specs.declared.Block.TheVariants.{Fixed}
-use Rattle.map.specs.Blocks.{block_firsts, block_of, block_test}
+use Rattle.map.specs.Blocks.{fixed, block_firsts, block_of, block_test}
 use Rattle.map.specs.FanBytes.{low_place, high_place}
 use Rattle.state.specs.declared.Chip.{Chip}
 use Rattle.state.specs.Parts.{fan_at}
@@ -56,7 +55,7 @@ module _ (c : Chip) (many : length c.kept ≡ 4) where
       sym (reads_present 256 c 0 many (λ fan l e. absurd (omega arith)) ∙ tab_same _ _ 256 (λ k l. rw zero-add))
 
   -- so does a listed block the bytes that byte reads of its registers show, in order: none begins with a high byte
-  pub block_is_reads : (command : ℕ) {first count : ℕ} → block_of command ≡ Fixed first count → block_bytes c first count ≡ read_from c first count
+  pub block_is_reads : (command : ℕ) {first count : ℕ} → block_of command ≡ fixed first count → block_bytes c first count ≡ read_from c first count
   unfolding block_bytes block_firsts no_high every Ready
   block_is_reads command {first} {count} listed =
       let no : T (no_high first) = block_test (λ first count. no_high first) tt command listed in

@@ -4,11 +4,10 @@ use Rattle.std.proofs.Common.{ap, ◌∙◌}
 use Rattle.std.proofs.Math.Dec.{T}
 use Rattle.laws.specs.Store.{set_cases}
 use Rattle.map.specs.declared.Kind.TheVariants.{Status}
-use Rattle.map.specs.declared.Block.TheVariants.{Fixed}
 use Rattle.map.specs.Map.{writable_of, home_of}
 use Rattle.map.specs.Bits.{is_set}
 use Rattle.map.specs.Kind.{kind_of}
-use Rattle.map.specs.Blocks.{block_of}
+use Rattle.map.specs.Blocks.{fixed, block_of}
 use Rattle.state.specs.declared.Chip.{Chip}
 use Rattle.state.specs.Parts.{register_at}
 use Rattle.state.specs.With.{with_register, with_zone}
@@ -40,7 +39,7 @@ module _ (c : Chip) (a byte k : ℕ) (b : byte < 256) (h : k < 8) (status : kind
 
 module _ (c : Chip) (a k : ℕ) (h : k < 8) (status : kind_of a ≡ Status) (stands : T (is_set (register_at c a) (2 ^ k))) where
   -- so it does through a block write, unless a byte of the block goes there and has that 1
-  pub error_stays_block : (address command : ℕ) (bytes : List ℕ) → ((i : ℕ) → i < length bytes → get_or bytes i 0 < 256) → ((first : ℕ) → block_of command ≡ Fixed first (length bytes) → (i : ℕ) → i < length bytes → home_of (first + i) ≡ a → T (is_set (get_or bytes i 0) (2 ^ k)) → ⊥) → T (is_set (register_at (wrote_block c address command bytes).chip a) (2 ^ k))
+  pub error_stays_block : (address command : ℕ) (bytes : List ℕ) → ((i : ℕ) → i < length bytes → get_or bytes i 0 < 256) → ((first : ℕ) → block_of command ≡ fixed first (length bytes) → (i : ℕ) → i < length bytes → home_of (first + i) ≡ a → T (is_set (get_or bytes i 0) (2 ^ k)) → ⊥) → T (is_set (register_at (wrote_block c address command bytes).chip a) (2 ^ k))
   unfolding transacted register_at
   error_stays_block address command bytes b unless =
       block_keeps c address command bytes (λ (d : Chip). T (is_set (register_at d a) (2 ^ k))) (λ (place byte : ℕ). (byte < 256) × (home_of place ≡ a → T (is_set byte (2 ^ k)) → ⊥)) (λ first ours listed i l. (b i l, unless first listed i l)) stands (λ d place byte q s. error_stays d a byte k q.0 h status s place q.1)

@@ -1,8 +1,7 @@
 -- What a bus transaction changes and what it keeps, and so any list of them. Assumes nothing.
-use Rattle.std.specs.Prelude.{◌≡◌, ℕ}
+use Rattle.std.specs.Prelude.{◌≡◌, ℕ, Some}
 use mathlib.Core.List.{List, [], ◌∷◌}
 use Rattle.state.specs.declared.Chip.{Chip}
-use Rattle.state.specs.declared.Latch.TheVariants.{Held}
 use Rattle.bus.specs.Latch.{transacted}
 use Rattle.bus.specs.Write.{wrote_register}
 use Rattle.bus.specs.Read.{kept_chip}
@@ -37,6 +36,6 @@ transactions_keep c ts =
     all_keep (BusKeeps c) (λ d address k. bus_keeps_on k (transacted_keeps d address).rest.keeps) (λ d a k. bus_keeps_on k (bus_keeps_but d _ _ _ _)) (λ d a byte k. bus_keeps_on k (register_keeps d a byte)) ts c (bus_keeps_self c)
 
 -- once latched, the address stays whatever comes
-pub all_held : (c : Chip) (ours : ℕ) → c.pin.latch ≡ Held ours → (ts : List Transaction) → (after_all c ts).pin.latch ≡ Held ours
+pub all_held : (c : Chip) (ours : ℕ) → c.pin.latch ≡ Some ours → (ts : List Transaction) → (after_all c ts).pin.latch ≡ Some ours
 all_held c ours held ts =
-    all_keep (λ (d : Chip). d.pin.latch ≡ Held ours) (λ d address h. held_stays d address h) (λ d a h. h) (λ d a byte h. rw (register_keeps_pin d a byte) h) ts c held
+    all_keep (λ (d : Chip). d.pin.latch ≡ Some ours) (λ d address h. held_stays d address h) (λ d a h. h) (λ d a byte h. rw (register_keeps_pin d a byte) h) ts c held

@@ -1,12 +1,10 @@
 -- Document 02, Q-1, "Whole blocks over the bus": block reads and block writes. Assumes nothing.
-use Rattle.std.specs.Prelude.{true, false, List, [], ◌∷◌, ℕ, suc, ◌+◌, min, eqb, length}
+use Rattle.std.specs.Prelude.{true, false, List, [], ◌∷◌, ℕ, suc, ◌+◌, min, eqb, length, Option, Some, None}
 use Rattle.laws.specs.Pick.{pick}
 use Rattle.laws.specs.Tab.{tab}
 use Rattle.map.specs.declared.Block.{Block}
-use Rattle.map.specs.declared.Block.TheVariants.{Unlisted, Fixed}
 use Rattle.map.specs.Blocks.{block_of}
 use Rattle.state.specs.declared.Chip.{Chip}
-use Rattle.state.specs.declared.Latch.{Latch}
 use Rattle.bus.specs.Latch.{is_ours, transacted}
 use Rattle.bus.specs.Write.{wrote_register, Written}
 use Rattle.bus.specs.Read.{shown_register}
@@ -17,8 +15,8 @@ unfoldable pub block_place : ℕ → ℕ → ℕ
 block_place first k = min (first + k) 0xFF
 
 -- the block that a transaction is for: "A command not listed is not acknowledged", and neither is one for another address
-unfoldable pub block_for : Latch → ℕ → ℕ → Block
-block_for latch address command = pick (is_ours latch address) (block_of command) Unlisted
+unfoldable pub block_for : Option ℕ → ℕ → ℕ → Option Block
+block_for latch address command = pick (is_ours latch address) (block_of command) None
 
 -- ---- block read
 
@@ -29,7 +27,7 @@ block_bytes c first count = tab (λ k. shown_register c (block_place first k)) c
 -- the chip after a block read, and the block whose bytes it then shows
 pub record SeenBlock : Type 0 where
   pub chip : Chip
-  pub block : Block
+  pub block : Option Block
 
 unfoldable pub read_block : Chip → ℕ → ℕ → SeenBlock
 read_block c address command =
@@ -38,18 +36,18 @@ read_block c address command =
 -- ---- block write
 
 -- "A block write whose count differs from the listed one is not acknowledged from the count on and writes nothing"
-unfoldable pub counted_block : ℕ → Block → Block
-counted_block n Unlisted = Unlisted
-counted_block n (Fixed first count) = pick (eqb n count) (Fixed first count) Unlisted
+unfoldable pub counted_block : ℕ → Option Block → Option Block
+counted_block n None = None
+counted_block n (Some block) = pick (eqb n block.count) (Some block) None
 
 -- "otherwise it equals its byte writes in rising order, lock and writable bits included": the bytes from byte k on
 unfoldable pub wrote_from : Chip → ℕ → ℕ → List ℕ → Chip
 wrote_from c first k [] = c
 wrote_from c first k (b ∷ bytes) = wrote_from (wrote_register c (block_place first k) b) first (suc k) bytes
 
-unfoldable pub wrote_by : Chip → Block → List ℕ → Written
-wrote_by c Unlisted bytes = record { chip = c; ack = false }
-wrote_by c (Fixed first count) bytes = record { chip = wrote_from c first 0 bytes; ack = true }
+unfoldable pub wrote_by : Chip → Option Block → List ℕ → Written
+wrote_by c None bytes = record { chip = c; ack = false }
+wrote_by c (Some block) bytes = record { chip = wrote_from c block.first 0 bytes; ack = true }
 
 unfoldable pub wrote_block : Chip → ℕ → ℕ → List ℕ → Written
 wrote_block c address command bytes =

@@ -1,17 +1,15 @@
 -- Worked cases of block reads and block writes, from document 02, Q-1, computed on the definitions. Assumes nothing.
-use Rattle.std.specs.Prelude.{◌≡◌, refl, true, false, List, [], ◌∷◌, ℕ, replicate, set}
+use Rattle.std.specs.Prelude.{◌≡◌, refl, true, false, List, [], ◌∷◌, ℕ, replicate, set, Some, None}
 use Rattle.laws.specs.Tab.{tab}
-use Rattle.map.specs.declared.Block.TheVariants.{Unlisted, Fixed}
 use Rattle.map.specs.Tables.{defaults, writables, lock_marks, homes}
 use Rattle.map.specs.Map.{writable_of, lock_marked, home_of}
 use Rattle.map.specs.Bits.{is_set}
 use Rattle.map.specs.Kind.{kind_of}
 use Rattle.map.specs.Slave.{slave_address}
-use Rattle.map.specs.Blocks.{block_firsts, block_counts, block_of}
+use Rattle.map.specs.Blocks.{fixed, block_firsts, block_counts, block_of}
 use Rattle.masks.specs.Masks.{state_by, sleep_state, is_masked, zone_masking, zone_masked}
 use Rattle.temperature.specs.Temperature.{byte_of, whole_of, whole_byte, degrees_of, reading_of}
 use Rattle.state.specs.declared.Chip.{Chip}
-use Rattle.state.specs.declared.Latch.TheVariants.{Held}
 use Rattle.state.specs.Parts.{register_at, zone_at, zone_enabled}
 use Rattle.state.specs.With.{with_register, with_zone}
 use Rattle.state.specs.PowerOn.{default_setup, power_on}
@@ -26,12 +24,12 @@ use Rattle.bus.specs.Block.{block_place, block_for, block_bytes, read_block, cou
 
 -- at power-on: F4h has the zones' missing marks and the filtered temperatures of 54h and 55h, FCh begins at D0h; F1h and FEh are not listed,
 -- and a block for another address has none, but latches ours
-pub block_reads : ((read_block fresh 0x2C 0xF4).block ≡ Fixed 0x50 6) × (block_bytes fresh 0x50 6 ≡ 0x80 ∷ 0x80 ∷ 0x80 ∷ 0x80 ∷ 0x00 ∷ 0x00 ∷ []) × ((read_block fresh 0x2C 0xFC).block ≡ Fixed 0xD0 16) × ((read_block fresh 0x2C 0xF1).block ≡ Unlisted) × ((read_block fresh 0x2C 0xFE).block ≡ Unlisted) × ((read_block fresh 0x2F 0xF4).block ≡ Unlisted) × ((read_block fresh 0x2F 0xF4).chip.pin.latch ≡ Held 0x2C)
+pub block_reads : ((read_block fresh 0x2C 0xF4).block ≡ fixed 0x50 6) × (block_bytes fresh 0x50 6 ≡ 0x80 ∷ 0x80 ∷ 0x80 ∷ 0x80 ∷ 0x00 ∷ 0x00 ∷ []) × ((read_block fresh 0x2C 0xFC).block ≡ fixed 0xD0 16) × ((read_block fresh 0x2C 0xF1).block ≡ None) × ((read_block fresh 0x2C 0xFE).block ≡ None) × ((read_block fresh 0x2F 0xF4).block ≡ None) × ((read_block fresh 0x2F 0xF4).chip.pin.latch ≡ Some 0x2C)
 unfolding read_block block_for block_of block_firsts block_counts block_bytes block_place tab transacted transacted_pin latch_after latch_by is_ours slave_address shown_register shown_home shown_kind whole_byte register_at zone_at kind_of home_of homes power_on default_setup defaults
 block_reads = (refl, refl, refl, refl, refl, refl, refl)
 
 -- F2h takes 8 bytes and no other count, and none for another address; each latches ours
-pub block_acks : ((wrote_block fresh 0x2C 0xF2 (replicate 8 0x00)).ack ≡ true) × ((wrote_block fresh 0x2C 0xF2 []).ack ≡ false) × ((wrote_block fresh 0x2C 0xF2 (replicate 7 0x00)).ack ≡ false) × ((wrote_block fresh 0x2C 0xF2 (replicate 9 0x00)).ack ≡ false) × ((wrote_block fresh 0x2F 0xF2 (replicate 8 0x00)).ack ≡ false) × ((wrote_block fresh 0x2C 0xF2 []).chip.pin.latch ≡ Held 0x2C) × ((wrote_block fresh 0x2F 0xF2 []).chip.pin.latch ≡ Held 0x2C)
+pub block_acks : ((wrote_block fresh 0x2C 0xF2 (replicate 8 0x00)).ack ≡ true) × ((wrote_block fresh 0x2C 0xF2 []).ack ≡ false) × ((wrote_block fresh 0x2C 0xF2 (replicate 7 0x00)).ack ≡ false) × ((wrote_block fresh 0x2C 0xF2 (replicate 9 0x00)).ack ≡ false) × ((wrote_block fresh 0x2F 0xF2 (replicate 8 0x00)).ack ≡ false) × ((wrote_block fresh 0x2C 0xF2 []).chip.pin.latch ≡ Some 0x2C) × ((wrote_block fresh 0x2F 0xF2 []).chip.pin.latch ≡ Some 0x2C)
 unfolding wrote_block wrote_by counted_block block_for block_of block_counts transacted transacted_pin latch_after latch_by is_ours slave_address power_on default_setup
 block_acks = (refl, refl, refl, refl, refl, refl, refl)
 

@@ -6,7 +6,6 @@ use Rattle.std.proofs.Math.Numerals.{add-one}
 use Rattle.laws.specs.Left.{left_some, left_none}
 use Rattle.laws.specs.TabEach.{tab_same}
 use Rattle.state.specs.declared.Chip.{Chip}
-use Rattle.state.specs.declared.Zone.{Zone}
 use Rattle.state.specs.With.{with_registers, with_zones, with_register, with_zone}
 use Rattle.state.specs.Made.{fresh, of_zones, of_readings}
 use Rattle.sense.specs.Events.{read_zone}
@@ -14,6 +13,7 @@ use Rattle.bus.specs.declared.Change.{Change}
 use Rattle.bus.specs.declared.Change.TheVariants.{Nothing, Register, ZoneReading}
 use Rattle.bus.specs.Write.{change_of, changed, wrote_register, change_by_parts}
 use Rattle.bus.specs.Read.{shown_by_parts}
+use Rattle.temperature.specs.declared.Reading.{Reading}
 use Rattle.bus.specs.Block.{block_place, block_bytes, wrote_from}
 
 -- ---- what each byte write keeps, all of them keep
@@ -58,8 +58,8 @@ wrote_from_by_parts c first k bytes =
 
 -- ---- as a loop writes the bytes, into registers and zones: one more byte; none left
 
-module _ (file : List ℕ) (zones : List Zone) (first k : ℕ) (bytes : List ℕ) where
-  pub wrote_more : {place : ℕ} {next : List ℕ} {left : List Zone} → k < length bytes → place ≡ block_place first k → left ≡ (wrote_register (of_zones file zones) place (get_or bytes k 0)).zones → next ≡ (wrote_register (of_zones file zones) place (get_or bytes k 0)).registers → wrote_from (of_zones next left) first (k + 1) (drop (k + 1) bytes) ≡ wrote_from (of_zones file zones) first k (drop k bytes)
+module _ (file : List ℕ) (zones : List Reading) (first k : ℕ) (bytes : List ℕ) where
+  pub wrote_more : {place : ℕ} {next : List ℕ} {left : List Reading} → k < length bytes → place ≡ block_place first k → left ≡ (wrote_register (of_zones file zones) place (get_or bytes k 0)).zones → next ≡ (wrote_register (of_zones file zones) place (get_or bytes k 0)).registers → wrote_from (of_zones next left) first (k + 1) (drop (k + 1) bytes) ≡ wrote_from (of_zones file zones) first k (drop k bytes)
   unfolding wrote_from
   wrote_more h p z r =
       rw (left_some bytes k h, add-one, z, r, p, ← wrote_like fresh (of_zones file zones) (block_place first k) (get_or bytes k 0))

@@ -1,5 +1,5 @@
 -- Worked cases of the bus, from documents 01 and 02, computed on the definitions. Assumes nothing.
-use Rattle.std.specs.Prelude.{◌≡◌, refl, ℕ, pos, negsuc}
+use Rattle.std.specs.Prelude.{◌≡◌, refl, ℕ, pos, negsuc, Some, None}
 use Rattle.map.specs.Tables.{defaults, writables, lock_marks, homes}
 use Rattle.map.specs.Map.{writable_of, lock_marked, home_of}
 use Rattle.map.specs.Bits.{is_set}
@@ -10,7 +10,6 @@ use Rattle.temperature.specs.declared.Reading.{Reading}
 use Rattle.temperature.specs.declared.Reading.TheVariants as reading
 use Rattle.temperature.specs.Temperature.{whole_byte, half_set, degrees_of, reading_of, with_half}
 use Rattle.state.specs.declared.Chip.{Chip}
-use Rattle.state.specs.declared.Count.TheVariants.{Taken, Missing}
 use Rattle.state.specs.Parts.{register_at, zone_at, volt_at, fan_at, kept_at}
 use Rattle.state.specs.With.{with_pin, with_register, with_zone, with_volt, with_fan}
 use Rattle.state.specs.PowerOn.{default_setup, power_on, at_rest}
@@ -18,14 +17,14 @@ use Rattle.state.specs.Made.{fresh}
 use Rattle.sense.specs.Events.{read_zone}
 use Rattle.bus.specs.Latch.{latch_by, latch_after, transacted_pin, is_ours, transacted}
 use Rattle.bus.specs.Write.{stored_byte, stored, cleared_byte, cleared, zone_writable, change_whole, change_half, change_kind, is_shut, change_home, change_of, changed, wrote_register}
-use Rattle.bus.specs.Read.{volt_byte, fan_word, low_byte, high_byte, half_byte, shown_kind, shown_home, shown_register, given_byte, given_at, given_register, kept_as, kept_after, kept_chip, Byte, NoByte, read_byte}
+use Rattle.bus.specs.Read.{volt_byte, fan_word, low_byte, high_byte, half_byte, shown_kind, shown_home, shown_register, given_byte, given_at, given_register, kept_as, kept_after, kept_chip, read_byte}
 
 -- the chip with the pin at a level
 abbrev pub at_level : Chip → ℕ → Chip
 at_level c level = with_pin c (record { level = level; latch = c.pin.latch })
 
 -- "after R 2F 00 and A 1, R 2C 00 is still acknowledged"; without the first, A 1 makes 2Eh ours; an address of another family latches nothing
-pub latch : ((read_byte (at_level (read_byte fresh 0x2F 0x00).chip 1) 0x2C 0x00).shown ≡ Byte 0x00) × ((read_byte (at_level fresh 1) 0x2C 0x00).shown ≡ NoByte) × ((read_byte (at_level fresh 1) 0x2E 0x3F).shown ≡ Byte 0x79) × ((read_byte (at_level (read_byte fresh 0x50 0x00).chip 1) 0x2C 0x00).shown ≡ NoByte) × ((read_byte (at_level fresh 2) 0x2D 0x3E).shown ≡ Byte 0x01)
+pub latch : ((read_byte (at_level (read_byte fresh 0x2F 0x00).chip 1) 0x2C 0x00).shown ≡ Some 0x00) × ((read_byte (at_level fresh 1) 0x2C 0x00).shown ≡ None) × ((read_byte (at_level fresh 1) 0x2E 0x3F).shown ≡ Some 0x79) × ((read_byte (at_level (read_byte fresh 0x50 0x00).chip 1) 0x2C 0x00).shown ≡ None) × ((read_byte (at_level fresh 2) 0x2D 0x3E).shown ≡ Some 0x01)
 unfolding read_byte transacted transacted_pin latch_after latch_by is_ours slave_address given_register given_at fan_byte_at byte_of_kind shown_register shown_home shown_kind register_at kind_of home_of homes power_on at_rest default_setup defaults
 latch = (refl, refl, refl, refl, refl)
 
@@ -35,15 +34,15 @@ unfolding shown_register shown_home shown_kind half_byte volt_byte fan_word low_
 marks = (refl, refl, refl, refl, refl, refl, refl, refl, refl, refl)
 
 -- a fan count of 1234h: 34h & 3Fh at the low byte's top is D0h, 1234h / 64 is 48h
-pub fan_bytes : (shown_register (with_fan fresh 2 (Taken 0x1234)) 0x72 ≡ 0xD0) × (shown_register (with_fan fresh 2 (Taken 0x1234)) 0x73 ≡ 0x48) × (shown_register (with_volt fresh 15 (Taken 0xC0)) 0x65 ≡ 0xC0)
+pub fan_bytes : (shown_register (with_fan fresh 2 (Some 0x1234)) 0x72 ≡ 0xD0) × (shown_register (with_fan fresh 2 (Some 0x1234)) 0x73 ≡ 0x48) × (shown_register (with_volt fresh 15 (Some 0xC0)) 0x65 ≡ 0xC0)
 unfolding shown_register shown_home shown_kind volt_byte fan_word low_byte high_byte with_fan with_volt volt_at fan_at kind_of home_of homes power_on at_rest default_setup defaults
 fan_bytes = (refl, refl, refl)
 
 -- 02, Q-4, on fan 3: 1234h, whose low byte is read, then 3000, which is 2Eh and E0h: the kept 48h once, then the present byte
 unfoldable pub low_read : Chip
-low_read = with_fan (kept_chip (with_fan fresh 2 (Taken 0x1234)) 0x72) 2 (Taken 3000)
+low_read = with_fan (kept_chip (with_fan fresh 2 (Some 0x1234)) 0x72) 2 (Some 3000)
 
-pub fan_kept : (given_register low_read 0x73 ≡ 0x48) × (shown_register low_read 0x73 ≡ 0x2E) × (given_register low_read 0x72 ≡ 0xE0) × (given_register (kept_chip low_read 0x73) 0x73 ≡ 0x2E) × (given_register (kept_chip low_read 0x72) 0x73 ≡ 0x2E) × (given_register (kept_chip low_read 0x71) 0x73 ≡ 0x48) × (given_register (kept_chip low_read 0x70) 0x71 ≡ 0xFF) × (given_register (with_fan (kept_chip fresh 0x72) 2 (Taken 0x1234)) 0x73 ≡ 0xFF) × (given_register (with_fan low_read 2 Missing) 0x73 ≡ 0x48)
+pub fan_kept : (given_register low_read 0x73 ≡ 0x48) × (shown_register low_read 0x73 ≡ 0x2E) × (given_register low_read 0x72 ≡ 0xE0) × (given_register (kept_chip low_read 0x73) 0x73 ≡ 0x2E) × (given_register (kept_chip low_read 0x72) 0x73 ≡ 0x2E) × (given_register (kept_chip low_read 0x71) 0x73 ≡ 0x48) × (given_register (kept_chip low_read 0x70) 0x71 ≡ 0xFF) × (given_register (with_fan (kept_chip fresh 0x72) 2 (Some 0x1234)) 0x73 ≡ 0xFF) × (given_register (with_fan low_read 2 None) 0x73 ≡ 0x48)
 unfolding low_read given_register given_at shown_register shown_home shown_kind kept_after kept_as given_byte fan_byte_at byte_of_kind fan_word low_byte high_byte with_fan fan_at kept_at kind_of home_of homes power_on at_rest default_setup defaults
 fan_kept = (refl, refl, refl, refl, refl, refl, refl, refl, refl)
 

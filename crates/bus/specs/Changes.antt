@@ -1,5 +1,5 @@
 -- What a byte write changes of the chip, and what it keeps. Assumes nothing.
-use Rattle.std.specs.Prelude.{◌≡◌, List, ℕ}
+use Rattle.std.specs.Prelude.{◌≡◌, List, ℕ, Option}
 use Rattle.std.proofs.Math.Path.{refl}
 use Rattle.std.proofs.Common.{◌∙◌}
 use Rattle.std.proofs.Math.Bool.{false}
@@ -8,9 +8,6 @@ use Rattle.map.specs.Names.{CONFIGURATION}
 use Rattle.map.specs.Kind.{kind_of}
 use Rattle.temperature.specs.declared.Reading.{Reading}
 use Rattle.state.specs.declared.Chip.{Chip}
-use Rattle.state.specs.declared.Zone.{Zone}
-use Rattle.state.specs.declared.FanKept.{FanKept}
-use Rattle.state.specs.declared.Latch.{Latch}
 use Rattle.state.specs.Parts.{register_at}
 use Rattle.state.specs.With.{with_registers, with_zones, with_kept, with_pin, with_register, with_zone}
 use Rattle.sense.specs.Events.{read_zone}
@@ -38,7 +35,7 @@ pub record BusKeeps (c d : Chip) : Type 0 where
   pub drive : d.drive ≡ c.drive
 
 -- whatever registers, zones, kept bytes and latch it gets
-pub bus_keeps_but : (c : Chip) (r : List ℕ) (z : List Zone) (k : List FanKept) (l : Latch) → BusKeeps c (with_pin (with_kept (with_zones (with_registers c r) z) k) (record { level = c.pin.level; latch = l }))
+pub bus_keeps_but : (c : Chip) (r : List ℕ) (z : List Reading) (k : List (Option ℕ)) (l : Option ℕ) → BusKeeps c (with_pin (with_kept (with_zones (with_registers c r) z) k) (record { level = c.pin.level; latch = l }))
 bus_keeps_but c r z k l = record { setup = refl; volts = refl; erring = refl; fans = refl; hot = refl; level = refl; drive = refl }
 
 -- a chip keeps its own, and what is kept twice is kept

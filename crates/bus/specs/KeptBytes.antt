@@ -1,18 +1,15 @@
 -- Document 02, Q-4: a byte read and the present byte, and what a byte read keeps and drops. Fans count from 0. Assumes nothing.
-use Rattle.std.specs.Prelude.{◌≡◌, ℕ, ◌*◌, ◌+◌, ◌/◌, ◌<◌, length, get_or, set}
+use Rattle.std.specs.Prelude.{◌≡◌, ℕ, ◌*◌, ◌+◌, ◌/◌, ◌<◌, length, get_or, set, Option, Some, None}
 use Rattle.std.proofs.Math.Path.{refl, ap}
 use Rattle.std.proofs.Common.{sym, arith, get_or-set_same, get_or-set_other}
 use Rattle.std.proofs.Math.ListN.{length-set}
 use Rattle.map.specs.FanBytes.{FanByte, neither, low, high, fan_byte_at, low_place, high_place, low_kind, high_kind, low_there, high_there, low_only, high_only}
 use Rattle.state.specs.declared.Chip.{Chip}
-use Rattle.state.specs.declared.Count.{Count}
-use Rattle.state.specs.declared.FanKept.{FanKept}
-use Rattle.state.specs.declared.KeptByte.TheVariants.{None, High}
 use Rattle.state.specs.Parts.{no_kept, fan_at, kept_at}
 use Rattle.bus.specs.Read.{fan_word, low_byte, high_byte, shown_kind, shown_home, shown_register, given_byte, given_at, given_register, kept_as, kept_after, kept_chip}
 
 -- the two bytes of a count of 14 bits are the count
-pub count_bytes : (n : Count) → fan_word n < 0x4000 → high_byte n * 64 + low_byte n / 4 ≡ fan_word n
+pub count_bytes : (n : Option ℕ) → fan_word n < 0x4000 → high_byte n * 64 + low_byte n / 4 ≡ fan_word n
 unfolding low_byte high_byte
 count_bytes n h = omega arith
 
@@ -74,11 +71,11 @@ module _ (c : Chip) where
   kept_many a = as_many (fan_byte_at a)
 
 module _ (c : Chip) (fan : ℕ) where
-  set_other : (i : ℕ) (k : FanKept) → (i ≡ fan → ⊥) → (get_or (set c.kept i k) fan no_kept).byte ≡ kept_at c fan
+  set_other : (i : ℕ) (k : Option ℕ) → (i ≡ fan → ⊥) → get_or (set c.kept i k) fan no_kept ≡ kept_at c fan
   unfolding kept_at
-  set_other i k n = ap (λ (f : FanKept). f.byte) (get_or-set_other c.kept i fan k no_kept (λ e. n (sym e)))
+  set_other i k n = get_or-set_other c.kept i fan k no_kept (λ e. n (sym e))
 
-  as_other : (b : FanByte) → (b ≡ low fan → ⊥) → (b ≡ high fan → ⊥) → (get_or (kept_as c b) fan no_kept).byte ≡ kept_at c fan
+  as_other : (b : FanByte) → (b ≡ low fan → ⊥) → (b ≡ high fan → ⊥) → get_or (kept_as c b) fan no_kept ≡ kept_at c fan
   unfolding kept_as kept_at
   as_other neither l h = refl
   as_other (low i) l h = set_other i _ (λ e. l (ap low e))
@@ -91,11 +88,11 @@ module _ (c : Chip) (fan : ℕ) where
 
   module _ (h : fan < 4) (many : length c.kept ≡ 4) where
     -- a read of its low byte keeps the high byte of that moment, in place of an older one
-    pub kept_low : kept_at (kept_chip c (low_place fan)) fan ≡ High (high_byte (fan_at c fan))
+    pub kept_low : kept_at (kept_chip c (low_place fan)) fan ≡ Some (high_byte (fan_at c fan))
     unfolding kept_at kept_after kept_as
-    kept_low = rw (low_there fan h) (ap (λ (f : FanKept). f.byte) (get_or-set_same c.kept fan _ no_kept (omega arith)))
+    kept_low = rw (low_there fan h) (get_or-set_same c.kept fan _ no_kept (omega arith))
 
     -- a read of its high byte drops it
     pub kept_high : kept_at (kept_chip c (high_place fan)) fan ≡ None
     unfolding kept_at kept_after kept_as
-    kept_high = rw (high_there fan h) (ap (λ (f : FanKept). f.byte) (get_or-set_same c.kept fan _ no_kept (omega arith)))
+    kept_high = rw (high_there fan h) (get_or-set_same c.kept fan _ no_kept (omega arith))

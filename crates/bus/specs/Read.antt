@@ -1,6 +1,6 @@
 -- Document 01, "The register map" and "Bus answers", and document 02, Q-4, "Fan counts that are not torn": what a register shows, and what a
 -- byte read shows and keeps. Assumes nothing.
-use Rattle.std.specs.Prelude.{◌≡◌, List, ℕ, ◌*◌, ◌/◌, ◌%◌, set}
+use Rattle.std.specs.Prelude.{◌≡◌, List, ℕ, ◌*◌, ◌/◌, ◌%◌, set, Option, Some, None}
 use Rattle.std.proofs.Math.Path.{refl, sym, ap}
 use Rattle.std.proofs.Common.{◌∙◌}
 use Rattle.laws.specs.Pick.{pick}
@@ -13,31 +13,31 @@ use Rattle.map.specs.FanBytes.{FanByte, neither, low, high, fan_byte_at}
 use Rattle.temperature.specs.declared.Reading.{Reading}
 use Rattle.temperature.specs.Temperature.{whole_byte, half_set}
 use Rattle.state.specs.declared.Chip.{Chip}
-use Rattle.state.specs.declared.Count.{Count}
-use Rattle.state.specs.declared.Count.TheVariants.{Taken, Missing}
-use Rattle.state.specs.declared.KeptByte.{KeptByte}
-use Rattle.state.specs.declared.KeptByte.TheVariants.{None, High}
-use Rattle.state.specs.declared.FanKept.{FanKept}
 use Rattle.state.specs.Parts.{no_kept, register_at, zone_at, volt_at, fan_at, kept_at}
 use Rattle.state.specs.With.{with_fans, with_kept, with_pin}
 use Rattle.state.specs.Made.{of_readings, of_kept}
 use Rattle.bus.specs.declared.ByteRead.{ByteRead}
+use Rattle.bus.specs.declared.Readings.{Readings}
 use Rattle.bus.specs.Latch.{transacted_pin, is_ours, transacted}
 
--- "Missing shows 00h for a voltage and 3FFFh for a fan."
-unfoldable pub volt_byte : Count → ℕ
-volt_byte Missing = 0x00
-volt_byte (Taken n) = n % 256
+-- the chip of the registers and the readings that are looked at
+abbrev pub of_parts : Readings → Chip
+of_parts r = of_readings r.file.now r.zones.now r.volts.now r.fans.now
 
-unfoldable pub fan_word : Count → ℕ
-fan_word Missing = 0x3FFF
-fan_word (Taken n) = n
+-- "Missing shows 00h for a voltage and 3FFFh for a fan."
+unfoldable pub volt_byte : Option ℕ → ℕ
+volt_byte None = 0x00
+volt_byte (Some n) = n % 256
+
+unfoldable pub fan_word : Option ℕ → ℕ
+fan_word None = 0x3FFF
+fan_word (Some n) = n
 
 -- "in 000's bit places": of a fan count six bits in the low byte's top, eight in the high byte
-unfoldable pub low_byte : Count → ℕ
+unfoldable pub low_byte : Option ℕ → ℕ
 low_byte n = fan_word n % 64 * 4
 
-unfoldable pub high_byte : Count → ℕ
+unfoldable pub high_byte : Option ℕ → ℕ
 high_byte n = fan_word n / 64 % 256
 
 unfoldable pub half_byte : Reading → ℕ
@@ -69,9 +69,9 @@ shown_register c a = shown_home c (home_of a)
 -- ---- what a byte read shows, and what is kept after it
 
 -- "the next read of that high byte gives the kept one"; "A high byte read without one kept is the present one."
-unfoldable pub given_byte : KeptByte → ℕ → ℕ
+unfoldable pub given_byte : Option ℕ → ℕ → ℕ
 given_byte None present = present
-given_byte (High byte) present = byte
+given_byte (Some byte) present = byte
 
 -- what a byte read shows where the present byte is this
 unfoldable pub given_at : Chip → FanByte → ℕ → ℕ
@@ -83,25 +83,21 @@ unfoldable pub given_register : Chip → ℕ → ℕ
 given_register c a = given_at c (fan_byte_at a) (shown_register c a)
 
 -- "A read of a fan count's low byte shall keep the matching high byte; the next read of that high byte gives the kept one and drops it."
-unfoldable pub kept_as : Chip → FanByte → List FanKept
+unfoldable pub kept_as : Chip → FanByte → List (Option ℕ)
 kept_as c neither = c.kept
-kept_as c (low fan) = set c.kept fan (record { byte = High (high_byte (fan_at c fan)) })
+kept_as c (low fan) = set c.kept fan (Some (high_byte (fan_at c fan)))
 kept_as c (high fan) = set c.kept fan no_kept
 
-unfoldable pub kept_after : Chip → ℕ → List FanKept
+unfoldable pub kept_after : Chip → ℕ → List (Option ℕ)
 kept_after c a = kept_as c (fan_byte_at a)
 
 unfoldable pub read_register : Chip → ℕ → ByteRead
 read_register c a = record { byte = given_register c a; kept = kept_after c a }
 
--- the answer to a byte read: nothing where it is not acknowledged
-pub data Shown : Type 0 where
-  NoByte : Shown
-  Byte : ℕ → Shown
-
+-- the chip after a byte read, and the byte that it shows: none where it is not acknowledged
 pub record Seen : Type 0 where
   pub chip : Chip
-  pub shown : Shown
+  pub shown : Option ℕ
 
 -- the chip after an acknowledged byte read
 abbrev pub kept_chip : Chip → ℕ → Chip
@@ -110,8 +106,8 @@ kept_chip c a = with_kept c (kept_after c a)
 unfoldable pub read_byte : Chip → ℕ → ℕ → Seen
 read_byte c address a =
     pick (is_ours (transacted c address).pin.latch address)
-    (record { chip = kept_chip (transacted c address) a; shown = Byte (given_register (transacted c address) a) })
-    (record { chip = transacted c address; shown = NoByte })
+    (record { chip = kept_chip (transacted c address) a; shown = Some (given_register (transacted c address) a) })
+    (record { chip = transacted c address; shown = None })
 
 -- ---- the parts that are looked at: the registers and the readings, by a byte read the kept bytes too
 
@@ -173,7 +169,7 @@ transacted_reads c address a =
 
 module _ (c : Chip) where
   -- R on the parts: the pin decides the acknowledgement, the registers, readings and kept bytes what is shown and kept
-  pub read_by_parts : (address a : ℕ) → read_byte c address a ≡ pick (is_ours (transacted_pin c.pin address).latch address) (record { chip = with_kept (with_pin c (transacted_pin c.pin address)) (read_register (of_kept c.registers c.zones c.volts c.fans c.kept) a).kept; shown = Byte (read_register (of_kept c.registers c.zones c.volts c.fans c.kept) a).byte }) (record { chip = with_pin c (transacted_pin c.pin address); shown = NoByte })
+  pub read_by_parts : (address a : ℕ) → read_byte c address a ≡ pick (is_ours (transacted_pin c.pin address).latch address) (record { chip = with_kept (with_pin c (transacted_pin c.pin address)) (read_register (of_kept c.registers c.zones c.volts c.fans c.kept) a).kept; shown = Some (read_register (of_kept c.registers c.zones c.volts c.fans c.kept) a).byte }) (record { chip = with_pin c (transacted_pin c.pin address); shown = None })
   unfolding read_byte transacted read_register
   read_by_parts address a =
       let e = read_register_by_parts (with_pin c (transacted_pin c.pin address)) a in

@@ -1,17 +1,15 @@
 -- What a bus transaction changes and what it keeps, and so any list of them. Assumes nothing.
-use Rattle.std.specs.Prelude.{◌≡◌, Bool, ℕ}
+use Rattle.std.specs.Prelude.{◌≡◌, Bool, ℕ, Option, Some, None}
 use Rattle.std.proofs.Math.Path.{refl, ap}
 use Rattle.std.proofs.Common.{◌∙◌}
 use Rattle.std.proofs.Math.Bool.{true, false}
 use mathlib.Core.List.{List, [], ◌∷◌}
 use Rattle.laws.specs.Pick.{pick}
 use Rattle.state.specs.declared.Chip.{Chip}
-use Rattle.state.specs.declared.Latch.{Latch}
-use Rattle.state.specs.declared.Latch.TheVariants.{Held}
 use Rattle.state.specs.With.{with_pin}
 use Rattle.bus.specs.Latch.{latch_by, latch_after, transacted_pin, is_ours, transacted}
 use Rattle.bus.specs.Write.{wrote_register, Written, wrote_byte}
-use Rattle.bus.specs.Read.{given_register, kept_chip, Byte, NoByte, Seen, read_byte}
+use Rattle.bus.specs.Read.{given_register, kept_chip, Seen, read_byte}
 use Rattle.bus.specs.Block.{read_block, wrote_block}
 use Rattle.bus.specs.Changes.{BusKeeps, bus_keeps_but, bus_keeps_self, bus_keeps_on, register_keeps, register_keeps_pin}
 
@@ -42,7 +40,7 @@ module _ (c : Chip) (address : ℕ) where
   unfolding read_byte
   read_cases P a p q = go (is_ours (transacted c address).pin.latch address)
     where
-      go : (t : Bool) → P (pick {A = Seen} t (record { chip = kept_chip (transacted c address) a; shown = Byte (given_register (transacted c address) a) }) (record { chip = transacted c address; shown = NoByte })).chip
+      go : (t : Bool) → P (pick {A = Seen} t (record { chip = kept_chip (transacted c address) a; shown = Some (given_register (transacted c address) a) }) (record { chip = transacted c address; shown = None })).chip
       go true = q
       go false = p
 
@@ -60,7 +58,7 @@ module _ (c : Chip) (address : ℕ) where
 
   module _ (other : is_ours (transacted c address).pin.latch address ≡ false) (a : ℕ) where
     -- a read for another address shows nothing, and leaves the chip as any transaction does
-    pub other_read : read_byte c address a ≡ record { chip = transacted c address; shown = NoByte }
+    pub other_read : read_byte c address a ≡ record { chip = transacted c address; shown = None }
     unfolding read_byte
     other_read = rw other
 
@@ -85,7 +83,7 @@ module _ (c : Chip) (address : ℕ) where
 
   -- ---- the latch
 
-  module _ {ours : ℕ} (held : c.pin.latch ≡ Held ours) where
+  module _ {ours : ℕ} (held : c.pin.latch ≡ Some ours) where
     latch_stays : latch_after c.pin address ≡ c.pin.latch
     unfolding latch_after latch_by
     latch_stays = rw held
@@ -93,16 +91,16 @@ module _ (c : Chip) (address : ℕ) where
     -- once an address is latched, a transaction as such changes nothing
     pub held_same : transacted c address ≡ c
     unfolding transacted transacted_pin
-    held_same = ap (λ (l : Latch). with_pin c (record { level = c.pin.level; latch = l })) latch_stays
+    held_same = ap (λ (l : Option ℕ). with_pin c (record { level = c.pin.level; latch = l })) latch_stays
 
     -- a latched address stays
-    pub held_stays : (transacted c address).pin.latch ≡ Held ours
+    pub held_stays : (transacted c address).pin.latch ≡ Some ours
     held_stays = ap (λ (d : Chip). d.pin.latch) held_same ∙ held
 
     -- so it does after a write
-    pub held_stays_write : (a byte : ℕ) → (wrote_byte c address a byte).chip.pin.latch ≡ Held ours
+    pub held_stays_write : (a byte : ℕ) → (wrote_byte c address a byte).chip.pin.latch ≡ Some ours
     held_stays_write a byte =
-        write_cases (λ (d : Chip). d.pin.latch ≡ Held ours) a byte held_stays (rw (register_keeps_pin (transacted c address) a byte) held_stays)
+        write_cases (λ (d : Chip). d.pin.latch ≡ Some ours) a byte held_stays (rw (register_keeps_pin (transacted c address) a byte) held_stays)
 
 -- ---- any list of them
 

@@ -24,6 +24,7 @@ use Rattle.determined.specs.PrintedOffsets.{offsets_printed}
 use Rattle.determined.specs.PrintedSixteenths.{fine_printed}
 use Rattle.determined.specs.PrintedMasks.{masks_printed}
 use Rattle.determined.specs.PrintedBlocks.{blocks_printed, rooms, too_many}
+use Rattle.state.specs.Refusal.{number_or_0, number_of}
 use Rattle.determined.specs.ProvedCases.{fresh_with, temperature_refusal, Cases}
 
 -- facts that stand in no other crate
@@ -36,7 +37,7 @@ unfolding took_reset reset_file register_at with_register power_on at_rest defau
 limit = refl
 
 ranges : (temperature_refusal 1 (Sixteenths (negsuc 2031)) ≡ 0) × (temperature_refusal 1 (Sixteenths (negsuc 2032)) ≡ 2) × (temperature_refusal 5 (Sixteenths (pos 2040)) ≡ 0) × (temperature_refusal 5 (Sixteenths (pos 2041)) ≡ 2) × (temperature_refusal 6 (Sixteenths (pos 0)) ≡ 2) × (temperature_refusal 1 (Halves (negsuc 253)) ≡ 0) × (temperature_refusal 1 (Halves (negsuc 254)) ≡ 2) × (temperature_refusal 1 (Halves (pos 255)) ≡ 0) × (temperature_refusal 1 (Halves (pos 256)) ≡ 2)
-unfolding refusal_of event_in index_in stated_in reading_within
+unfolding number_or_0 number_of refusal_of event_in index_in stated_in reading_within
 ranges = (refl, refl, refl, refl, refl, refl, refl, refl, refl)
 
 pub all : Cases

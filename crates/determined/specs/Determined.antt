@@ -3,14 +3,11 @@
 -- Each public function of the libraries has its statement under its own name, and one law, `determined`, proves them all.
 use Rattle.std.specs.Prelude.{◌≡◌, List, ℕ}
 use Rattle.std.proofs.Common.{sym, ◌∙◌}
-use Rattle.state.specs.declared.Chip.{Chip}
-use Rattle.state.specs.declared.Setup.{Setup}
-use Rattle.bus.specs.declared.Dumped.{Dumped}
-use Rattle.event.specs.declared.Event.{Event}
-use Rattle.event.specs.declared.Answer.{Answer}
-use Rattle.line.specs.declared.Session.{Session}
-use Rattle.line.specs.declared.Reply.{Reply}
-use Rattle.port.specs.Port.{PowersOn, TakesEvent, TakesLine, Dumps, ShowsBlock}
+use Rattle.std.specs.declared.clone.Clone.{Ghosts}
+use denote.RattleType.{RattleType}
+use denote.Param.Laws.{Laws, IsCopy}
+use mir.Syntax.{Dict, w64}
+use mir.Val.{Fits}
 use Rattle.map.proofs.default_of.Reads.{Learnt as default-of-promise}
 use Rattle.map.proofs.writable_of.Reads.{Learnt as writable-of-promise}
 use Rattle.map.proofs.lock_marked.Reads.{Learnt as lock-marked-promise}
@@ -19,6 +16,7 @@ use Rattle.map.proofs.is_set.Reads.{Learnt as is-set-promise}
 use Rattle.map.proofs.kind_of.Reads.{Learnt as kind-of-promise}
 use Rattle.map.proofs.slave_address.Reads.{Learnt as slave-address-promise}
 use Rattle.map.proofs.block_of.Reads.{Learnt as block-of-promise}
+use Rattle.masks.proofs.SleepStateFromU8.from.Reads.{Learnt as sleep-state-promise}
 use Rattle.masks.proofs.volt_masks.Reads.{Learnt as volt-masks-promise}
 use Rattle.masks.proofs.fan_masks.Reads.{Learnt as fan-masks-promise}
 use Rattle.masks.proofs.zone_masks.Reads.{Learnt as zone-masks-promise}
@@ -32,13 +30,10 @@ use Rattle.temperature.proofs.hotter.Reads.{Learnt as hotter-promise}
 use Rattle.state.proofs.default_setup.Reads.{Learnt as default-setup-promise}
 use Rattle.state.proofs.power_again.Reads.{Learnt as power-again-promise}
 use Rattle.state.proofs.power_on.Reads.{Learnt as power-on-promise}
-use Rattle.state.proofs.zone_at.Reads.{Learnt as zone-at-promise}
+use Rattle.state.proofs.U8FromRefusal.from.Reads.{Learnt as refusal-number-promise}
+use Rattle.state.proofs.at.Reads.{Learnt as at-promise}
+use Rattle.state.proofs.with.Reads.{Learnt as with-promise}
 use Rattle.state.proofs.zone_enabled.Reads.{Learnt as zone-enabled-promise}
-use Rattle.state.proofs.volt_at.Reads.{Learnt as volt-at-promise}
-use Rattle.state.proofs.fan_at.Reads.{Learnt as fan-at-promise}
-use Rattle.state.proofs.with_reading.Reads.{Learnt as with-reading-promise}
-use Rattle.state.proofs.kept_at.Reads.{Learnt as kept-at-promise}
-use Rattle.state.proofs.with_kept_byte.Reads.{Learnt as with-kept-byte-promise}
 use Rattle.sense.proofs.mark_missing.Reads.{Learnt as mark-missing-promise}
 use Rattle.sense.proofs.errors_standing.Reads.{Learnt as errors-standing-promise}
 use Rattle.sense.proofs.alert_active.Reads.{Learnt as alert-active-promise}
@@ -60,7 +55,7 @@ use Rattle.bus.proofs.block_written.Reads.{Learnt as block-written-promise}
 use Rattle.bus.proofs.show_block.Reads.{Learnt as show-block-promise}
 use Rattle.bus.proofs.write_block.Reads.{Learnt as write-block-promise}
 use Rattle.drive.proofs.followed_zone.Reads.{Learnt as followed-zone-promise}
-use Rattle.drive.proofs.new_step.Reads.{Learnt as new-step-promise}
+use Rattle.drive.proofs.Table.new_step.Reads.{Learnt as new-step-promise}
 use Rattle.drive.proofs.asked_duty.Reads.{Learnt as asked-duty-promise}
 use Rattle.drive.proofs.is_boosted.Reads.{Learnt as is-boosted-promise}
 use Rattle.drive.proofs.delay_of.Reads.{Learnt as delay-of-promise}
@@ -69,6 +64,7 @@ use Rattle.drive.proofs.fan_duty.Reads.{Learnt as fan-duty-promise}
 use Rattle.drive.proofs.kicked_fan.Reads.{Learnt as kicked-fan-promise}
 use Rattle.drive.proofs.tick.Reads.{Learnt as tick-promise}
 use Rattle.event.proofs.refusal_of.Reads.{Learnt as refusal-of-promise}
+use Rattle.event.proofs.take.Reads.{Learnt as take-promise}
 use Rattle.event.proofs.step.Reads.{Learnt as step-promise}
 use Rattle.event.proofs.dump.Reads.{Learnt as event-dump-promise}
 use Rattle.event.proofs.show_block.Reads.{Learnt as event-show-block-promise}
@@ -78,7 +74,6 @@ use Rattle.text.proofs.count_fields.Reads.{Learnt as count-fields-promise}
 use Rattle.text.proofs.field.Reads.{Learnt as field-promise}
 use Rattle.text.proofs.next_field.Reads.{Learnt as next-field-promise}
 use Rattle.text.proofs.decimal.Reads.{Learnt as decimal-promise}
-use Rattle.text.proofs.is_spelt.Reads.{Learnt as is-spelt-promise}
 use Rattle.text.proofs.hex_byte.Reads.{Learnt as hex-byte-promise}
 use Rattle.text.proofs.hex_fields.Reads.{Learnt as hex-fields-promise}
 use Rattle.text.proofs.write_ack.Reads.{Learnt as write-ack-promise}
@@ -93,6 +88,12 @@ use Rattle.parse.proofs.data_of.Reads.{Learnt as data-of-promise}
 use Rattle.settings.proofs.settings_of.Reads.{Learnt as settings-of-promise}
 use Rattle.line.proofs.start.Reads.{Learnt as start-promise}
 use Rattle.line.proofs.take_line.Reads.{Learnt as take-line-promise}
+use Rattle.line.specs.declared.Session.{Session}
+use Rattle.port.proofs.power_on.Reads.{Learnt as port-power-on-promise}
+use Rattle.port.proofs.take_event.Reads.{Learnt as port-take-event-promise}
+use Rattle.port.proofs.take_line.Reads.{Learnt as port-take-line-promise}
+use Rattle.port.proofs.dump.Reads.{Learnt as port-dump-promise}
+use Rattle.port.proofs.show_block.Reads.{Learnt as port-show-block-promise}
 use Rattle.lent.proofs.power_again.Reads.{Learnt as lent-power-again-promise}
 use Rattle.lent.proofs.take_event.Reads.{Learnt as lent-take-event-promise}
 use Rattle.lent.proofs.take_line.Reads.{Learnt as lent-take-line-promise}
@@ -155,6 +156,9 @@ block_of = determined (λ κs a r e p. p)
 
 -- ---- masks: sleep masks
 
+pub sleep_state_from : Result sleep-state-promise
+sleep_state_from = determined (λ κs a r e p. p)
+
 pub volt_masks_lem : Result volt-masks-promise
 volt_masks_lem = determined (λ κs a r e p. p)
 
@@ -198,26 +202,18 @@ power_again_lem = determined (λ κs a r e p. p)
 pub power_on_lem : Result power-on-promise
 power_on_lem = determined (λ κs a r e p. p)
 
-pub zone_at_lem : Result zone-at-promise
-zone_at_lem = determined (λ κs a r e p. p)
+pub refusal_number : Result refusal-number-promise
+refusal_number = determined (λ κs a r e p. p)
+
+-- of parts of any type: the readings of zones, channels and fans, and the kept bytes
+pub at_lem : (T : RattleType) (laws : Laws T) (copies : IsCopy T) (clones : Ghosts T.Denot) (d : Dict) → Result (at-promise T laws copies clones d)
+at_lem T laws copies clones d = determined (λ κs a r e p. p)
+
+pub with_lem : (T : RattleType) (n : ℕ) (laws : Laws T) (fits : Fits w64 n) (copies : IsCopy T) (clones : Ghosts T.Denot) (d : Dict) → Result (with-promise T n laws fits copies clones d)
+with_lem T n laws fits copies clones d = determined (λ κs a r e p. p)
 
 pub zone_enabled_lem : Result zone-enabled-promise
 zone_enabled_lem = determined (λ κs a r e p. p)
-
-pub volt_at_lem : Result volt-at-promise
-volt_at_lem = determined (λ κs a r e p. p)
-
-pub fan_at_lem : Result fan-at-promise
-fan_at_lem = determined (λ κs a r e p. p)
-
-pub with_reading_lem : Result with-reading-promise
-with_reading_lem = determined (λ κs a r e p. p)
-
-pub kept_at_lem : Result kept-at-promise
-kept_at_lem = determined (λ κs a r e p. p)
-
-pub with_kept_byte_lem : Result with-kept-byte-promise
-with_kept_byte_lem = determined (λ κs a r e p. p)
 
 -- ---- sense: readings, errors and ALERT
 
@@ -268,7 +264,7 @@ change_of_lem = determined (λ κs a r e p. p)
 pub read_register_lem : Result read-register-promise
 read_register_lem = determined (λ κs a r e p. p)
 
-pub dump : ResultAnd dump-promise (λ κs e. e.1.1.1.1.0.now)
+pub dump : ResultAnd dump-promise (λ κs e. e.1.0.now)
 dump = determined (λ κs a r e p. both p)
 
 pub block_read : Result block-read-promise
@@ -277,7 +273,7 @@ block_read = determined (λ κs a r e p. p)
 pub block_written : Result block-written-promise
 block_written = determined (λ κs a r e p. p)
 
-pub show_block_lem : Left show-block-promise (λ κs e. e.1.1.1.1.1.0.now)
+pub show_block_lem : Left show-block-promise (λ κs e. e.1.1.0.now)
 show_block_lem = determined (λ κs a r e p. p)
 
 pub write_block_lem : ResultAnd write-block-promise (λ κs e. e.0.now)
@@ -317,6 +313,9 @@ tick = determined (λ κs a r e p. p)
 pub refusal_of_lem : Result refusal-of-promise
 refusal_of_lem = determined (λ κs a r e p. p)
 
+pub take_lem : ResultAnd take-promise (λ κs e. e.0.now)
+take_lem = determined (λ κs a r e p. both p)
+
 pub step : Result step-promise
 step = determined (λ κs a r e p. p)
 
@@ -351,9 +350,6 @@ next_field = determined (λ κs a r e p. p.1)
 
 pub decimal : Result decimal-promise
 decimal = determined (λ κs a r e p. p)
-
-pub is_spelt_lem : Result is-spelt-promise
-is_spelt_lem = determined (λ κs a r e p. p)
 
 pub hex_byte_lem : Result hex-byte-promise
 hex_byte_lem = determined (λ κs a r e p. p)
@@ -406,22 +402,19 @@ take_line_lem = determined (λ κs a r e p. both p)
 
 -- ---- port: the chip that stays with the caller
 
--- its functions are proved by hand and have no `Reads`, so these are about the definitions that their `ensures` cite, and nothing else: of
--- what is given, a, what is answered, r, and what is left, e
-
-pub port_power_on : ResultAnd {K = Unit {0}} {A = λ _. Chip × Setup} {R = λ _. ℕ} {E = λ _. Chip} (λ _ a r e. PowersOn a.0 a.1 r e) (λ _ e. e)
+pub port_power_on : ResultAnd port-power-on-promise (λ κs e. e.0.now)
 port_power_on = determined (λ κs a r e p. both p)
 
-pub port_take_event : ResultAnd {K = Unit {0}} {A = λ _. Chip × (Event × List ℕ)} {R = λ _. Answer} {E = λ _. Chip} (λ _ a r e. TakesEvent a.0 a.1.0 a.1.1 r e) (λ _ e. e)
+pub port_take_event : ResultAnd port-take-event-promise (λ κs e. e.0.now)
 port_take_event = determined (λ κs a r e p. both p)
 
-pub port_take_line : ResultAnd {K = Unit {0}} {A = λ _. Session × (List ℕ × List ℕ)} {R = λ _. Reply} {E = λ _. Session × List ℕ} (λ _ a r e. TakesLine a.0 a.1.0 a.1.1 r e.0 e.1) (λ _ e. e)
+pub port_take_line : ResultAnd port-take-line-promise {B = Session × List ℕ} (λ κs e. (e.0.now, e.1.1.0.now))
 port_take_line = determined (λ κs a r e p. both (p.0, both (p.1, p.2)))
 
-pub port_dump : ResultAnd {K = Unit {0}} {A = λ _. Chip × List ℕ} {R = λ _. Dumped} {E = λ _. List ℕ} (λ _ a r e. Dumps a.0 a.1 r e) (λ _ e. e)
+pub port_dump : ResultAnd port-dump-promise (λ κs e. e.1.0.now)
 port_dump = determined (λ κs a r e p. both p)
 
-pub port_show_block : Left {K = Unit {0}} {A = λ _. Chip × (ℕ × List ℕ)} {R = λ _. Unit {0}} {E = λ _. List ℕ} (λ _ a r e. ShowsBlock a.0 a.1.0 a.1.1 e) (λ _ e. e)
+pub port_show_block : Left port-show-block-promise (λ κs e. e.1.1.0.now)
 port_show_block = determined (λ κs a r e p. p)
 
 -- ---- lent: a chip by value, lent to port

@@ -11,6 +11,7 @@ use Rattle.text.specs.Answers.{digits_text, column_text, hex_digit, hex_text, di
 use Rattle.parse.specs.Parse.{letter_of, number_at, index_of, spelled_stated, count_of, pair_of, temperature_line, hot_line, alone_line, two_by, two_of, three_by, three_of, write_by, write_line, read_by, read_line, event_by, data_of}
 use Rattle.line.specs.Line.{start_session, answer_text}
 use Rattle.line.specs.Session.{printed_from}
+use Rattle.state.specs.Refusal.{number_of}
 use Rattle.determined.specs.Said.{says, AllSay, none, more, text_at, said_prints, AllPlain, plain_from, plain_prints}
 
 -- K, T 1 70, T 5 66, K, W 2C BF 01, H 1 1, K, W 2C B5 80, K, R 2C 52, R 2D 52, T 6 10; tabs are 9
@@ -46,7 +47,7 @@ output =
 
 -- each line says its event
 said : AllSay input session
-unfolding input session letter_of event_by alone_line temperature_line hot_line write_line write_by read_line read_by three_of three_by two_of two_by data_of pair_of number_at index_of spelled_stated count_of first_field other_fields fields_of field_at is_digit all_digits value_of run_of plus_of minus_of decimal_of is_spelt nibble_of hex_byte_of
+unfolding input session letter_of event_by alone_line write_line read_line three_of two_of data_of pair_of number_at index_of spelled_stated count_of first_field other_fields fields_of field_at is_digit all_digits value_of run_of plus_of minus_of decimal_of is_spelt nibble_of hex_byte_of
 said =
     more (says refl refl refl)
     (more (says refl refl refl)
@@ -82,7 +83,7 @@ plain =
 
 -- the answers print as the output
 shown : plain_from 1 fresh answers ≡ output
-unfolding answers output plain_from text_at answer_text digits_text column_text hex_digit hex_text digit_of ack_text byte_text no_byte_text tick_text refusal_text
+unfolding answers output plain_from text_at answer_text digits_text column_text hex_digit hex_text digit_of ack_text byte_text no_byte_text tick_text refusal_text number_of
 shown = refl
 
 pub printed : printed_from start_session 1 input ≡ output

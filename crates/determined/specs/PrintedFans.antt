@@ -22,8 +22,8 @@ use Rattle.text.specs.Number.{is_digit, all_digits, value_of, run_of, plus_of, m
 use Rattle.text.specs.Hex.{nibble_of, hex_byte_of}
 use Rattle.text.specs.Answers.{hex_digit, hex_text, digit_of, byte_text, no_byte_text, bytes_text, block_text}
 use Rattle.parse.specs.Parse.{letter_of, number_at, index_of, count_of, pair_of, fan_line, alone_line, two_by, two_of, read_by, read_line, read_block_by, read_block_line, event_by, data_by, data_of}
-use Rattle.line.specs.Line.{start_session, asked_event, asked_other, asked_by, asked_text, begun_line, event_line, judged_by, judged_line, answer_text}
-use Rattle.line.specs.Session.{printed_by, printed_from}
+use Rattle.line.specs.Line.{start_session, asked_event, asked_other, asked_by, asked_text, begun_line, event_line, judged_by, judged_line, answer_text, asked_unless}
+use Rattle.line.specs.Session.{printed_by, printed_from, printed_unless}
 
 -- F 1 4660, which is 48h and D0h, and R 2C 6F: "power-on starts with none", "A high byte read without one kept is the present one"
 -- R 2C 6E: "A read of a fan count's low byte shall keep the matching high byte"
@@ -64,5 +64,5 @@ fan_output =
     ∷ []
 
 pub fans_printed : printed_from start_session 1 fan_input ≡ fan_output
-unfolding fan_input fan_output start_session printed_from printed_by judged_line judged_by asked_text asked_by asked_event asked_other event_line begun_line answer_text refusal_of event_in index_in count_in event_by letter_of fields_of first_field other_fields field_at number_at index_of count_of pair_of fan_line alone_line read_line read_by read_block_line read_block_by two_of two_by is_digit all_digits value_of run_of plus_of minus_of decimal_of is_spelt hex_byte_of nibble_of data_of data_by stepped_chip taken_step quiet_step took_fan with_fan compared_fan fan_limit_at fan_limit took_reset reset_file read_answer seen_answer read_byte given_register given_at given_byte kept_after kept_as fan_byte_at byte_of_kind seen_block_answer block_answer read_block block_for block_of block_firsts block_counts block_bytes block_place tab shown_register shown_home shown_kind low_byte high_byte fan_word fan_at kept_at kind_of home_of homes transacted transacted_pin latch_after latch_by is_ours slave_address power_on default_setup defaults byte_text no_byte_text block_text bytes_text hex_text hex_digit digit_of
+unfolding fan_input fan_output start_session printed_from printed_by printed_unless judged_line judged_by asked_text asked_by asked_event asked_unless asked_other event_line begun_line answer_text refusal_of event_in index_in count_in event_by letter_of fields_of first_field other_fields field_at number_at index_of count_of pair_of alone_line read_line read_block_line two_of is_digit all_digits value_of run_of plus_of minus_of decimal_of is_spelt hex_byte_of nibble_of data_of stepped_chip taken_step quiet_step took_fan with_fan compared_fan fan_limit_at fan_limit took_reset reset_file read_answer seen_answer read_byte given_register given_at given_byte kept_after kept_as fan_byte_at byte_of_kind seen_block_answer block_answer read_block block_for block_of block_firsts block_counts block_bytes block_place tab shown_register shown_home shown_kind low_byte high_byte fan_word fan_at kept_at kind_of home_of homes transacted transacted_pin latch_after latch_by is_ours slave_address power_on default_setup defaults byte_text no_byte_text block_text bytes_text hex_text hex_digit digit_of
 fans_printed = refl

@@ -27,8 +27,9 @@ use Rattle.text.specs.Answers.{digits_text, column_text, digit_of, tick_text, re
 use Rattle.parse.specs.Parse.{letter_of, number_at, index_of, spelled_stated, pair_of, temperature_line, alone_line, event_by, data_of}
 use Rattle.settings.specs.Settings.{setting_at, range_of, is_within, plain_of, signed_of, none_or, setup_by, rises_by, refused_settings, is_setup, settings_of}
 use Rattle.settings.specs.Cases.{zeros}
-use Rattle.line.specs.Line.{start_session, asked_event, asked_settings, asked_other, asked_by, asked_text, refused_line, begun_line, setup_line, event_line, judged_by, judged_line, answer_text}
-use Rattle.line.specs.Session.{printed_by, printed_from}
+use Rattle.line.specs.Line.{start_session, asked_event, asked_settings, asked_other, asked_by, asked_text, refused_line, begun_line, setup_line, event_line, judged_by, judged_line, answer_text, asked_unless}
+use Rattle.state.specs.Refusal.{number_of}
+use Rattle.line.specs.Session.{printed_by, printed_from, printed_unless}
 
 -- n fields so spelled
 abbrev fields : ℕ → List ℕ → List ℕ
@@ -75,5 +76,5 @@ offset_output =
     ∷ []
 
 pub offsets_printed : printed_from start_session 1 offset_input ≡ offset_output
-unfolding offset_input offset_output start_session printed_from printed_by judged_line judged_by asked_text asked_by asked_event asked_other asked_settings setup_line refused_line event_line begun_line answer_text refusal_of event_in index_in stated_in reading_within stated_reading event_by letter_of fields_of first_field other_fields field_at temperature_line alone_line pair_of spelled_stated number_at index_of decimal_of plus_of minus_of run_of all_digits is_digit value_of is_spelt data_of settings_of refused_settings is_setup setting_at every range_of is_within rises_by plain_of signed_of none_or setup_by tab stepped_chip taken_step quiet_step took_temperature zone_heard zone_three_fed read_zone zone_file compared_zone zone_watched temps_watched low_temp high_temp zone_number with_zone tick_answer ticked_chip missed missed_file missed_zones missed_volts missed_fans missed_zone missed_volt missed_fan volt_watched fan_watched low_limit high_limit fan_limit fan_limit_at alert_active errors_standing zone_counts volt_counts fan_counts is_set driven drive_after outputs_after kick_after duty_of duty_after levels_of ramps_after ramp_after any_on boosts_after boost_after kicked_fan loaded_start fan_duty tables_ask bound_largest ramped_on moved_level delay_of is_boosted zone_enabled register_at zone_at hot_at power_on at_rest defaults asks_after steps_after ask_after step_after followed asked_duty new_step settled not_above threshold_reached is_reached sum_to table_of unit_of followed_zone zone_one zone_two joined_zone hotter_of count_to refusal_text tick_text column_text digits_text digit_of
+unfolding offset_input offset_output start_session printed_from printed_by printed_unless judged_line judged_by asked_text asked_by asked_event asked_unless asked_other asked_settings setup_line refused_line event_line begun_line answer_text refusal_of event_in index_in stated_in reading_within stated_reading event_by letter_of fields_of first_field other_fields field_at alone_line pair_of spelled_stated number_at index_of decimal_of plus_of minus_of run_of all_digits is_digit value_of is_spelt data_of settings_of is_setup setting_at every range_of is_within rises_by plain_of signed_of none_or setup_by tab stepped_chip taken_step quiet_step took_temperature zone_heard zone_three_fed read_zone zone_file compared_zone zone_watched temps_watched low_temp high_temp zone_number with_zone tick_answer ticked_chip missed missed_file missed_zones missed_volts missed_fans missed_zone missed_volt missed_fan volt_watched fan_watched low_limit high_limit fan_limit fan_limit_at alert_active errors_standing zone_counts volt_counts fan_counts is_set driven drive_after outputs_after kick_after duty_of duty_after levels_of ramps_after ramp_after any_on boosts_after boost_after kicked_fan loaded_start fan_duty tables_ask bound_largest ramped_on moved_level delay_of is_boosted zone_enabled register_at zone_at hot_at power_on at_rest defaults asks_after steps_after ask_after step_after followed asked_duty new_step settled not_above threshold_reached is_reached sum_to table_of unit_of followed_zone zone_one zone_two joined_zone hotter_of count_to refusal_text number_of tick_text column_text digits_text digit_of
 offsets_printed = refl

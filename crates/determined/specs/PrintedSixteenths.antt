@@ -31,8 +31,9 @@ use Rattle.text.specs.Fields.{fields_of, first_field, other_fields, field_at}
 use Rattle.text.specs.Hex.{nibble_of, hex_byte_of}
 use Rattle.text.specs.Number.{decimal_of, plus_of, minus_of, run_of, all_digits, is_digit, value_of, is_spelt}
 use Rattle.parse.specs.Parse.{event_by, letter_of, temperature_line, alone_line, pair_of, spelled_stated, number_at, index_of, data_of, write_line, write_by, read_line, read_by, three_of, three_by, two_of, two_by}
-use Rattle.line.specs.Line.{start_session, judged_line, judged_by, asked_text, asked_by, asked_event, refused_line, event_line, begun_line, answer_text, asked_other}
-use Rattle.line.specs.Session.{printed_from, printed_by}
+use Rattle.line.specs.Line.{start_session, judged_line, judged_by, asked_text, asked_by, asked_event, refused_line, event_line, begun_line, answer_text, asked_other, asked_unless}
+use Rattle.state.specs.Refusal.{number_of}
+use Rattle.line.specs.Session.{printed_from, printed_by, printed_unless}
 
 -- Table 1 and table 3 have thresholds at 512, 544, .. sixteenths and a hysteresis of 32; tabs are 9
 -- U 1 543, U 5 543, K, R 2C 50, R 2C 10: one threshold is reached, and 33 degrees and a half show
@@ -93,5 +94,5 @@ fine_output =
     ∷ []
 
 pub fine_printed : printed_from start_session 1 fine_input ≡ fine_output
-unfolding fine_input fine_output start_session printed_from printed_by judged_line judged_by asked_text asked_by asked_event refused_line event_line begun_line answer_text refusal_of event_in index_in stated_in reading_within stated_reading event_by letter_of fields_of first_field other_fields field_at temperature_line alone_line pair_of spelled_stated number_at index_of decimal_of plus_of minus_of run_of all_digits is_digit value_of is_spelt data_of stepped_chip taken_step quiet_step took_temperature zone_heard zone_three_fed read_zone zone_file compared_zone zone_watched temps_watched low_temp high_temp zone_number with_zone tick_answer ticked_chip missed missed_file missed_zones missed_volts missed_fans missed_zone missed_volt missed_fan volt_watched fan_watched low_limit high_limit fan_limit fan_limit_at alert_active errors_standing zone_counts volt_counts fan_counts is_set driven drive_after outputs_after kick_after duty_of duty_after levels_of ramps_after ramp_after any_on boosts_after boost_after kicked_fan loaded_start fan_duty tables_ask bound_largest ramped_on moved_level delay_of is_boosted zone_enabled register_at zone_at hot_at power_on at_rest defaults asks_after steps_after ask_after step_after followed asked_duty new_step settled not_above threshold_reached is_reached sum_to table_of unit_of followed_zone zone_one zone_two joined_zone hotter_of count_to refusal_text tick_text column_text digits_text digit_of asked_other write_line write_by read_line read_by three_of three_by two_of two_by nibble_of hex_byte_of written_answer wrote_byte wrote_register changed change_of change_home change_kind change_whole change_half zone_writable is_shut lock_marked lock_marks kind_of home_of homes with_half reading_of degrees_of stored stored_byte writable_of writables with_register transacted transacted_pin latch_after latch_by is_ours slave_address read_answer seen_answer read_byte given_register given_at given_byte fan_byte_at byte_of_kind shown_register shown_home shown_kind half_byte whole_byte half_set whole_of byte_of is_odd kept_after kept_as ack_text byte_text hex_text hex_digit default_setup
+unfolding fine_input fine_output start_session printed_from printed_by printed_unless judged_line judged_by asked_text asked_by asked_event asked_unless refused_line event_line begun_line answer_text refusal_of event_in index_in stated_in reading_within stated_reading event_by letter_of fields_of first_field other_fields field_at alone_line pair_of spelled_stated number_at index_of decimal_of plus_of minus_of run_of all_digits is_digit value_of is_spelt data_of stepped_chip taken_step quiet_step took_temperature zone_heard zone_three_fed read_zone zone_file compared_zone zone_watched temps_watched low_temp high_temp zone_number with_zone tick_answer ticked_chip missed missed_file missed_zones missed_volts missed_fans missed_zone missed_volt missed_fan volt_watched fan_watched low_limit high_limit fan_limit fan_limit_at alert_active errors_standing zone_counts volt_counts fan_counts is_set driven drive_after outputs_after kick_after duty_of duty_after levels_of ramps_after ramp_after any_on boosts_after boost_after kicked_fan loaded_start fan_duty tables_ask bound_largest ramped_on moved_level delay_of is_boosted zone_enabled register_at zone_at hot_at power_on at_rest defaults asks_after steps_after ask_after step_after followed asked_duty new_step settled not_above threshold_reached is_reached sum_to table_of unit_of followed_zone zone_one zone_two joined_zone hotter_of count_to refusal_text number_of tick_text column_text digits_text digit_of asked_other write_line read_line three_of two_of nibble_of hex_byte_of written_answer wrote_byte wrote_register changed change_of change_home change_kind change_whole change_half zone_writable is_shut lock_marked lock_marks kind_of home_of homes with_half reading_of degrees_of stored stored_byte writable_of writables with_register transacted transacted_pin latch_after latch_by is_ours slave_address read_answer seen_answer read_byte given_register given_at given_byte fan_byte_at byte_of_kind shown_register shown_home shown_kind half_byte whole_byte half_set whole_of byte_of is_odd kept_after kept_as ack_text byte_text hex_text hex_digit default_setup
 fine_printed = refl

@@ -23,8 +23,8 @@ use Rattle.text.specs.Number.{is_digit, all_digits, value_of, run_of, plus_of, m
 use Rattle.text.specs.Hex.{nibble_of, hex_byte_of}
 use Rattle.text.specs.Answers.{hex_digit, hex_text, digit_of, ack_text, byte_text}
 use Rattle.parse.specs.Parse.{letter_of, number_at, index_of, count_of, pair_of, voltage_line, two_by, two_of, three_by, three_of, write_by, write_line, read_by, read_line, event_by, data_of}
-use Rattle.line.specs.Line.{start_session, asked_event, asked_by, asked_text, begun_line, event_line, judged_by, judged_line, answer_text}
-use Rattle.line.specs.Session.{printed_by, printed_from}
+use Rattle.line.specs.Line.{start_session, asked_event, asked_by, asked_text, begun_line, event_line, judged_by, judged_line, answer_text, asked_unless}
+use Rattle.line.specs.Session.{printed_by, printed_from, printed_unless}
 
 -- W 2C 9C 50, W 2C 9D 64 and W 2C BC 02: limits 80 and 100, VH 2
 -- V 7 79, R 2C 41 and R 2C 49: an error
@@ -84,5 +84,5 @@ volt_output =
     ∷ []
 
 pub volts_printed : printed_from start_session 1 volt_input ≡ volt_output
-unfolding volt_input volt_output start_session printed_from printed_by judged_line judged_by asked_text asked_by asked_event event_line begun_line answer_text refusal_of event_in index_in count_in event_by letter_of fields_of first_field other_fields field_at number_at index_of count_of pair_of voltage_line write_line write_by three_of three_by read_line read_by two_of two_by is_digit all_digits value_of run_of plus_of minus_of decimal_of is_spelt hex_byte_of nibble_of data_of stepped_chip taken_step quiet_step took_voltage read_volt fed_zone feeds_three feeds_four with_volt with_in_error in_error erred_volt erring_after erring_on ends_error low_move high_move hysteresis_of low_limit high_limit is_outside marked_volt marked volt_masked volt_masking is_masked sleep_state state_by with_bit written_answer wrote_byte wrote_register changed change_of change_home change_kind is_shut stored stored_byte cleared cleared_byte with_register writable_of writables lock_marked lock_marks is_set read_answer seen_answer read_byte given_register given_at fan_byte_at byte_of_kind shown_register shown_home shown_kind register_at kind_of home_of homes transacted transacted_pin latch_after latch_by is_ours slave_address power_on default_setup defaults ack_text byte_text hex_text hex_digit digit_of
+unfolding volt_input volt_output start_session printed_from printed_by printed_unless judged_line judged_by asked_text asked_by asked_event asked_unless event_line begun_line answer_text refusal_of event_in index_in count_in event_by letter_of fields_of first_field other_fields field_at number_at index_of count_of pair_of write_line three_of read_line two_of is_digit all_digits value_of run_of plus_of minus_of decimal_of is_spelt hex_byte_of nibble_of data_of stepped_chip taken_step quiet_step took_voltage read_volt fed_zone feeds_three feeds_four with_volt with_in_error in_error erred_volt erring_after erring_on ends_error low_move high_move hysteresis_of low_limit high_limit is_outside marked_volt marked volt_masked volt_masking is_masked sleep_state state_by with_bit written_answer wrote_byte wrote_register changed change_of change_home change_kind is_shut stored stored_byte cleared cleared_byte with_register writable_of writables lock_marked lock_marks is_set read_answer seen_answer read_byte given_register given_at fan_byte_at byte_of_kind shown_register shown_home shown_kind register_at kind_of home_of homes transacted transacted_pin latch_after latch_by is_ours slave_address power_on default_setup defaults ack_text byte_text hex_text hex_digit digit_of
 volts_printed = refl

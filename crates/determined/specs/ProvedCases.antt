@@ -1,14 +1,12 @@
 -- Document 01's cases, in one list under one statement, in 01's order and each under 01's words, with those of document 02 behind them, over
 -- the definitions that the code is proved to meet. negsuc n is -(n + 1). Zones, channels and fans count from 0. Assumes nothing.
-use Rattle.std.specs.Prelude.{◌≡◌, Bool, true, false, [], ◌∷◌, ℕ, ℤ, pos, negsuc, replicate}
+use Rattle.std.specs.Prelude.{◌≡◌, Bool, true, false, [], ◌∷◌, ℕ, ℤ, pos, negsuc, replicate, Some}
 use Rattle.temperature.specs.declared.Reading.TheVariants as reading
 use Rattle.temperature.specs.declared.Stated.{Stated}
 use Rattle.temperature.specs.declared.Stated.TheVariants.{Halves, Sixteenths}
 use Rattle.temperature.specs.Temperature.{HALF, DEGREE, whole_byte, reading_of, hotter_of}
 use Rattle.temperature.specs.Cases.{Shows, T, U}
 use Rattle.state.specs.declared.Chip.{Chip}
-use Rattle.state.specs.declared.Boost.TheVariants as boost
-use Rattle.state.specs.declared.Count.TheVariants.{Taken}
 use Rattle.state.specs.Parts.{register_at, zone_at, in_error}
 use Rattle.state.specs.With.{with_register, with_zone}
 use Rattle.state.specs.PowerOn.{default_setup}
@@ -18,13 +16,14 @@ use Rattle.sense.specs.Missing.{missed}
 use Rattle.sense.specs.Standing.{errors_standing, alert_active}
 use Rattle.sense.specs.Events.{took_temperature, took_voltage, took_pin, took_reset}
 use Rattle.bus.specs.Write.{wrote_register}
-use Rattle.bus.specs.Read.{Byte, read_byte}
+use Rattle.bus.specs.Read.{read_byte}
 use Rattle.drive.specs.declared.Searched.{Searched}
 use Rattle.drive.specs.Tables.{table_from, table_of, new_step}
 use Rattle.drive.specs.Search.{searched}
 use Rattle.drive.specs.Boosts.{is_boosted}
 use Rattle.drive.specs.Cases.{tall}
 use Rattle.event.specs.declared.Event.TheVariants.{Temperature, WriteBlock}
+use Rattle.state.specs.Refusal.{number_or_0}
 use Rattle.event.specs.Event.{refusal_of}
 use Rattle.event.specs.Run.{answers_to}
 use Rattle.event.specs.Session.{session, answers}
@@ -45,14 +44,14 @@ fresh_with a byte = with_register fresh a byte
 
 -- the errors standing after a count of channel 7, whose limits at 9Ch and 9Dh are 80 and 100
 abbrev pub seven_at : ℕ → ℕ
-seven_at n = errors_standing (took_voltage (with_register (fresh_with 0x9C 80) 0x9D 100) 6 (Taken n)).registers
+seven_at n = errors_standing (took_voltage (with_register (fresh_with 0x9C 80) 0x9D 100) 6 (Some n)).registers
 
 -- the errors standing after two counts of channel 7, its bit cleared in both groups between them; by its limits and BCh, whose bits 2 to 0
 -- are VH
 abbrev pub seven_again : ℕ → ℕ → ℕ → ℕ → ℕ → ℕ
 seven_again low high vh first second =
     let bounded = with_register (with_register (fresh_with 0x9C low) 0x9D high) 0xBC vh in
-    errors_standing (took_voltage (with_register (with_register (took_voltage bounded 6 (Taken first)) 0x41 0x00) 0x49 0x00) 6 (Taken second)).registers
+    errors_standing (took_voltage (with_register (with_register (took_voltage bounded 6 (Some first)) 0x41 0x00) 0x49 0x00) 6 (Some second)).registers
 
 -- the chip with zone 3 at n sixteenths, writable by INT_WR_E in 31h, after a byte written at an address
 abbrev pub three_at : ℕ → ℕ → ℕ → Chip
@@ -60,7 +59,7 @@ three_at n a byte = wrote_register (with_zone (fresh_with 0x31 0x10) 4 (reading.
 
 -- the chip after a count of channel 11, which feeds zone 3 while INT_AD11 is set in 31h
 abbrev pub eleven : ℕ → Chip → Chip
-eleven n c = took_voltage c 10 (Taken n)
+eleven n c = took_voltage c 10 (Some n)
 
 -- a search from an old step at h half degrees, of table 1 without a setup: thresholds 64, 68, .., 108 half degrees, hysteresis 4
 abbrev pub search_from : ℕ → ℕ → Searched
@@ -72,7 +71,7 @@ tall_from base unit old h = new_step (tall (pos base) unit) old (T (pos h))
 
 -- 0 or the refusal of a T or a U
 abbrev pub temperature_refusal : ℕ → Stated → ℕ
-temperature_refusal zone stated = refusal_of (Temperature zone stated) []
+temperature_refusal zone stated = number_or_0 (refusal_of (Temperature zone stated) [])
 
 -- the step from an old step at n sixteenths, of table 1 without a setup: thresholds 512, 544, .., 864 sixteenths, hysteresis 32
 abbrev pub fine_from : ℕ → ℕ → ℕ
@@ -80,7 +79,7 @@ fine_from old n = new_step (table_of default_setup 0x00 0) old (U (pos n))
 
 -- whether a boost at a number of degrees, with a hysteresis of 3, is on at n sixteenths
 abbrev pub boost_at : ℤ → ℤ → Bool → Bool
-boost_at degrees n was = is_boosted true (boost.At degrees) 3 (U n) was
+boost_at degrees n was = is_boosted true (Some degrees) 3 (U n) was
 
 -- zone 1 with limits at 78h and 79h and a byte at 31h, where Z1bE is bit 2
 abbrev pub zone_one_in : ℕ → ℕ → ℕ → Chip
@@ -92,11 +91,11 @@ zone_one_at low high n = errors_standing (took_temperature (zone_one_in 0x00 low
 
 -- the chip after a 79 of channel 7, whose limits are 80 and 100, in a sleep state: 0 is S0, 1 S1, 2 S3 and 3 S4/5
 abbrev pub seven_asleep : ℕ → Chip
-seven_asleep state = took_voltage (with_register (with_register (fresh_with 0x9C 80) 0x9D 100) 0xE4 state) 6 (Taken 79)
+seven_asleep state = took_voltage (with_register (with_register (fresh_with 0x9C 80) 0x9D 100) 0xE4 state) 6 (Some 79)
 
 -- the chip after a 79 of channel 7 in S0, then in a sleep state
 abbrev pub seven_then : ℕ → Chip
-seven_then state = with_register (took_voltage (with_register (fresh_with 0x9C 80) 0x9D 100) 6 (Taken 79)) 0xE4 state
+seven_then state = with_register (took_voltage (with_register (fresh_with 0x9C 80) 0x9D 100) 6 (Some 79)) 0xE4 state
 
 -- the errors standing after a tick at which a sensor is missing: watched by a limit's byte, in a sleep state, with a byte in a mask register
 abbrev pub missed_in : ℕ → ℕ → ℕ → ℕ → ℕ → ℕ
@@ -140,14 +139,14 @@ pub record Cases : Type 0 where
   -- "or restore limits"
   pub limit_kept : register_at (took_reset (fresh_with 0x9C 80)) 0x9C ≡ 80
   -- "after R 2F 00 and A 1, R 2C 00 is still acknowledged"
-  pub latched : (read_byte (took_pin (read_byte fresh 0x2F 0x00).chip 1) 0x2C 0x00).shown ≡ Byte 0x00
+  pub latched : (read_byte (took_pin (read_byte fresh 0x2F 0x00).chip 1) 0x2C 0x00).shown ≡ Some 0x00
   -- ---- document 02, Q-1, "Whole blocks over the bus"
   -- G and P lines from power-on, taken and refused: their bytes, and those that they print
   pub blocks : printed_from start_session 1 block_input ≡ block_output
   -- "for a line that begins with G, an output under 128 bytes is 5, in its old place": GG, G 2C F6, and P 2C F2 00
   pub block_rooms : RepliesIn 127 (71 ∷ 71 ∷ []) 5 0 × RepliesIn 128 (71 ∷ 71 ∷ []) 4 0 × RepliesIn 127 (71 ∷ 9 ∷ 50 ∷ 67 ∷ 9 ∷ 70 ∷ 54 ∷ []) 5 0 × RepliesIn 128 (71 ∷ 9 ∷ 50 ∷ 67 ∷ 9 ∷ 70 ∷ 54 ∷ []) 0 19 × RepliesIn 64 (80 ∷ 9 ∷ 50 ∷ 67 ∷ 9 ∷ 70 ∷ 50 ∷ 9 ∷ 48 ∷ 48 ∷ []) 0 4
   -- "more than 32 data bytes .. is 4", beside an event too, and before 2
-  pub block_too_many : (refusal_of (WriteBlock 0x80 0xF2) (replicate 33 0) ≡ 4) × (refusal_of (WriteBlock 0x80 0xF2) (replicate 32 0) ≡ 2)
+  pub block_too_many : (number_or_0 (refusal_of (WriteBlock 0x80 0xF2) (replicate 33 0)) ≡ 4) × (number_or_0 (refusal_of (WriteBlock 0x80 0xF2) (replicate 32 0)) ≡ 2)
   -- ---- document 02, Q-2, "Voltage hysteresis as the chip has it"
   -- V lines of channel 7 with its bits read and cleared between them, from power-on: their bytes, and those that they print
   pub voltages : printed_from start_session 1 volt_input ≡ volt_output

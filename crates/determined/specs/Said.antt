@@ -1,30 +1,27 @@
 -- Lines that say events print what the chip answers to the events. Assumes nothing.
-use Rattle.std.specs.Prelude.{◌≡◌, Bool, List, [], ◌∷◌, ◌++◌, ℕ, ◌+◌, ltb, length}
+use Rattle.std.specs.Prelude.{◌≡◌, Bool, List, [], ◌∷◌, ◌++◌, ℕ, ◌+◌, ltb, length, Option, Some, None}
 use Rattle.std.proofs.Math.Path.{refl}
 use Rattle.std.proofs.Math.Bool.{true, false}
-use Rattle.std.proofs.Math.Dec.{eqb}
-use Rattle.std.proofs.Common.{eqb-true}
-use Rattle.std.proofs.lemmas.Bool.{eqb-false}
 use Rattle.laws.specs.Pick.{pick}
 use Rattle.state.specs.declared.Chip.{Chip}
+use Rattle.state.specs.declared.Refusal.{Refusal}
+use Rattle.state.specs.Refusal.{number_of}
 use Rattle.event.specs.declared.Answer.{Answer}
-use Rattle.event.specs.declared.Answer.TheVariants.{Nothing, Refused, Acknowledged, Byte, NoByte, Ticked, Block, NoBlock, BlockWritten}
+use Rattle.event.specs.declared.Answer.TheVariants.{Nothing, Refused, Acknowledged, Byte, Ticked, Block, BlockWritten}
 use Rattle.event.specs.Event.{refusal_of, refused_step}
 use Rattle.event.specs.Run.{Given, given_step, answers_to}
 use Rattle.event.specs.Refusal.{in_taken, step_refused}
 use Rattle.text.specs.Answers.{refusal_text}
-use Rattle.parse.specs.declared.Parsed.TheVariants.{Fine}
 use Rattle.parse.specs.Parse.{event_of, data_of}
 use Rattle.line.specs.declared.Session.{Session}
-use Rattle.line.specs.declared.Asked.TheVariants as asked
-use Rattle.line.specs.Line.{Judged, asked_event, asked_by, asked_text, refused_line, begun_line, event_line, judged_by, judged_line, answer_text}
-use Rattle.line.specs.Session.{printed_by, printed_from}
+use Rattle.line.specs.Line.{Judged, asked_unless, asked_event, asked_by, asked_text, refused_line, begun_line, event_line, judged_by, judged_line, answer_text}
+use Rattle.line.specs.Session.{printed_unless, printed_by, printed_from}
 
 -- ---- what is said
 
 -- a line says an event: it is not too long, it is spelled as the event, and it carries the bytes beside it
 pub data Says (l : List ℕ) (g : Given) : Type 0 where
-  says : ltb 512 (length l) ≡ false → event_of l ≡ Fine g.event → data_of l ≡ g.bytes → Says l g
+  says : ltb 512 (length l) ≡ false → event_of l ≡ Some g.event → data_of l ≡ g.bytes → Says l g
 
 -- line by line
 pub data AllSay : List (List ℕ) → List Given → Type 0 where
@@ -35,14 +32,12 @@ pub data AllSay : List (List ℕ) → List Given → Type 0 where
 
 -- of the answer to line n; the bytes of a block are those that the chip shows then
 unfoldable pub text_at : ℕ → Chip → Answer → List ℕ
-text_at n c (Refused r) = refusal_text n r
+text_at n c (Refused r) = refusal_text n (number_of r)
 text_at n c Nothing = answer_text c Nothing
 text_at n c (Acknowledged a) = answer_text c (Acknowledged a)
 text_at n c (Byte b) = answer_text c (Byte b)
-text_at n c NoByte = answer_text c NoByte
 text_at n c (Ticked t) = answer_text c (Ticked t)
-text_at n c (Block first count) = answer_text c (Block first count)
-text_at n c NoBlock = answer_text c NoBlock
+text_at n c (Block b) = answer_text c (Block b)
 text_at n c (BlockWritten a) = answer_text c (BlockWritten a)
 
 -- of the answers to line n and those behind it, from a chip on
@@ -58,41 +53,35 @@ record Prints (s : Session) (g : Given) (j : Judged) : Type 0 where
   chip : j.session.chip ≡ (given_step s.chip g).chip
 
 -- of an answer that is no refusal, its text
-text_taken : (n : ℕ) (c : Chip) (a : Answer) → ((r : ℕ) → a ≡ Refused r → ⊥) → answer_text c a ≡ text_at n c a
+text_taken : (n : ℕ) (c : Chip) (a : Answer) → ((r : Refusal) → a ≡ Refused r → ⊥) → answer_text c a ≡ text_at n c a
 unfolding text_at
 text_taken n c (Refused r) f = absurd (f r refl)
 text_taken n c Nothing f = refl
 text_taken n c (Acknowledged a) f = refl
 text_taken n c (Byte b) f = refl
-text_taken n c NoByte f = refl
 text_taken n c (Ticked t) f = refl
-text_taken n c (Block first count) f = refl
-text_taken n c NoBlock f = refl
+text_taken n c (Block b) f = refl
 text_taken n c (BlockWritten a) f = refl
 
 module _ (s : Session) (g : Given) where
-  -- the event's refusal, 0 where it is taken
-  abbrev number : ℕ
-  number = refusal_of g.event g.bytes
-
-  taken_prints : number ≡ 0 → Prints s g (event_line s.chip g.event g.bytes)
-  unfolding event_line begun_line printed_by
+  taken_prints : refusal_of g.event g.bytes ≡ None → Prints s g (event_line s.chip g.event g.bytes)
+  unfolding event_line begun_line printed_by printed_unless
   taken_prints z = record { text = λ n. text_taken n _ _ (in_taken s.chip g.event g.bytes z); chip = refl }
 
-  refused_prints : eqb number 0 ≡ false → Prints s g (refused_line s number)
-  unfolding refused_line refused_step printed_by text_at
-  refused_prints o =
-      let q = step_refused s.chip g.event g.bytes (eqb-false number 0 o) in
-      record { text = λ n. rw (q, o); chip = rw q }
+  refused_prints : (r : Refusal) → refusal_of g.event g.bytes ≡ Some r → Prints s g (refused_line s r)
+  unfolding refused_line refused_step printed_by printed_unless text_at
+  refused_prints r o =
+      let q = step_refused s.chip g.event g.bytes o in
+      record { text = λ n. rw q; chip = rw q }
 
   -- a line that says the event
   line_prints : {l : List ℕ} → Says l g → Prints s g (judged_line s l)
-  unfolding judged_line judged_by asked_text asked_by asked_event
-  line_prints {l} (says short spelled carried) = rw (short, spelled, carried) (go (eqb number 0) refl)
+  unfolding judged_line judged_by asked_text asked_by asked_event asked_unless
+  line_prints {l} (says short spelled carried) = rw (short, spelled, carried) (go (refusal_of g.event g.bytes) refl)
     where
-      go : (b : Bool) → eqb number 0 ≡ b → Prints s g (judged_by s l (pick b (asked.Event g.event) (asked.Refused number)))
-      go true z = rw carried (taken_prints (eqb-true number 0 z))
-      go false o = refused_prints o
+      go : (r : Option Refusal) → refusal_of g.event g.bytes ≡ r → Prints s g (judged_by s l (asked_unless g.event r))
+      go None z = rw carried (taken_prints z)
+      go (Some r) o = refused_prints r o
 
 -- lines that say events print the answers to the events
 pub said_prints : (s : Session) (n : ℕ) {ls : List (List ℕ)} {gs : List Given} → AllSay ls gs → printed_from s n ls ≡ text_from n s.chip gs

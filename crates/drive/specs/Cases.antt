@@ -1,12 +1,10 @@
 -- Worked cases of the stages, from documents 01 and 02. negsuc n is -(n + 1). Assumes nothing.
-use Rattle.std.specs.Prelude.{◌≡◌, refl, true, false, [], ◌∷◌, ℕ, ℤ, pos, negsuc, replicate}
+use Rattle.std.specs.Prelude.{◌≡◌, refl, true, false, [], ◌∷◌, ℕ, ℤ, pos, negsuc, replicate, Some, None}
 use Rattle.laws.specs.Count.{count_to}
 use Rattle.map.specs.Bits.{is_set}
 use Rattle.temperature.specs.declared.Reading.TheVariants.{Missing}
 use Rattle.temperature.specs.Temperature.{HALF, DEGREE, stated_reading}
 use Rattle.temperature.specs.Cases.{T, U}
-use Rattle.state.specs.declared.Boost.TheVariants as boost
-use Rattle.state.specs.declared.Override.TheVariants as override
 use Rattle.state.specs.PowerOn.{default_setup}
 use Rattle.drive.specs.Tables.{Table, table_from, unit_of, table_of, sum_to, is_reached, threshold_reached, not_above, settled, new_step}
 use Rattle.drive.specs.Search.{upward, downward, walk_from, walk, searched}
@@ -63,7 +61,7 @@ unfolding stated_reading searched walk walk_from upward downward new_step table_
 searches = (refl, refl, refl, refl, refl, refl, refl, refl, refl, refl, refl, refl)
 
 -- boost 40 degrees, hysteresis 3: on from 80 half degrees, kept from 74 up, off at 73; missing is on; -10 degrees with its sign
-pub boosts : (is_boosted true (boost.At (pos 40)) 3 (T (pos 80)) false ≡ true) × (is_boosted true (boost.At (pos 40)) 3 (T (pos 79)) false ≡ false) × (is_boosted true (boost.At (pos 40)) 3 (T (pos 74)) true ≡ true) × (is_boosted true (boost.At (pos 40)) 3 (T (pos 73)) true ≡ false) × (is_boosted true (boost.At (pos 40)) 3 Missing false ≡ true) × (is_boosted true boost.Off 3 Missing true ≡ false) × (is_boosted false (boost.At (pos 40)) 3 Missing true ≡ false) × (is_boosted true (boost.At (negsuc 9)) 3 (T (negsuc 19)) false ≡ true) × (is_boosted true (boost.At (negsuc 9)) 3 (T (negsuc 26)) true ≡ false)
+pub boosts : (is_boosted true (Some (pos 40)) 3 (T (pos 80)) false ≡ true) × (is_boosted true (Some (pos 40)) 3 (T (pos 79)) false ≡ false) × (is_boosted true (Some (pos 40)) 3 (T (pos 74)) true ≡ true) × (is_boosted true (Some (pos 40)) 3 (T (pos 73)) true ≡ false) × (is_boosted true (Some (pos 40)) 3 Missing false ≡ true) × (is_boosted true None 3 Missing true ≡ false) × (is_boosted false (Some (pos 40)) 3 Missing true ≡ false) × (is_boosted true (Some (negsuc 9)) 3 (T (negsuc 19)) false ≡ true) × (is_boosted true (Some (negsuc 9)) 3 (T (negsuc 26)) true ≡ false)
 unfolding stated_reading is_boosted is_latched
 boosts = (refl, refl, refl, refl, refl, refl, refl, refl, refl)
 
@@ -75,7 +73,7 @@ unfolding stated_reading new_step table_of unit_of is_set settled not_above coun
 fine_steps = (refl, refl, refl, refl, refl, refl, refl, refl, refl, refl, refl)
 
 -- boost 40 degrees, hysteresis 3: on from 640 sixteenths, kept from 592 up, off at 591; -10 degrees are -160 and -208
-pub fine_boosts : (is_boosted true (boost.At (pos 40)) 3 (U (pos 640)) false ≡ true) × (is_boosted true (boost.At (pos 40)) 3 (U (pos 639)) false ≡ false) × (is_boosted true (boost.At (pos 40)) 3 (U (pos 592)) true ≡ true) × (is_boosted true (boost.At (pos 40)) 3 (U (pos 591)) true ≡ false) × (is_boosted true (boost.At (negsuc 9)) 3 (U (negsuc 159)) false ≡ true) × (is_boosted true (boost.At (negsuc 9)) 3 (U (negsuc 160)) false ≡ false) × (is_boosted true (boost.At (negsuc 9)) 3 (U (negsuc 207)) true ≡ true) × (is_boosted true (boost.At (negsuc 9)) 3 (U (negsuc 208)) true ≡ false)
+pub fine_boosts : (is_boosted true (Some (pos 40)) 3 (U (pos 640)) false ≡ true) × (is_boosted true (Some (pos 40)) 3 (U (pos 639)) false ≡ false) × (is_boosted true (Some (pos 40)) 3 (U (pos 592)) true ≡ true) × (is_boosted true (Some (pos 40)) 3 (U (pos 591)) true ≡ false) × (is_boosted true (Some (negsuc 9)) 3 (U (negsuc 159)) false ≡ true) × (is_boosted true (Some (negsuc 9)) 3 (U (negsuc 160)) false ≡ false) × (is_boosted true (Some (negsuc 9)) 3 (U (negsuc 207)) true ≡ true) × (is_boosted true (Some (negsuc 9)) 3 (U (negsuc 208)) true ≡ false)
 unfolding stated_reading is_boosted is_latched
 fine_boosts = (refl, refl, refl, refl, refl, refl, refl, refl)
 
@@ -85,7 +83,7 @@ unfolding ramped_on moved_level delay_of
 ramps = (refl, refl, refl, refl, refl, refl, refl, refl)
 
 -- binding 17 is table 1 and VRD1; an override stands in place of the tables only; nothing bound asks 0
-pub duties : (fan_duty 17 override.Off (96 ∷ 240 ∷ 240 ∷ 240 ∷ []) (16 ∷ 256 ∷ 256 ∷ 256 ∷ []) false ≡ 96) × (fan_duty 17 (override.At 10) (96 ∷ 240 ∷ 240 ∷ 240 ∷ []) (16 ∷ 256 ∷ 256 ∷ 256 ∷ []) false ≡ 16) × (fan_duty 17 (override.At 10) (96 ∷ 240 ∷ 240 ∷ 240 ∷ []) (16 ∷ 256 ∷ 256 ∷ 256 ∷ []) true ≡ 256) × (fan_duty 0 override.Off (96 ∷ 240 ∷ 240 ∷ 240 ∷ []) (16 ∷ 256 ∷ 256 ∷ 256 ∷ []) false ≡ 0)
+pub duties : (fan_duty 17 None (96 ∷ 240 ∷ 240 ∷ 240 ∷ []) (16 ∷ 256 ∷ 256 ∷ 256 ∷ []) false ≡ 96) × (fan_duty 17 (Some 10) (96 ∷ 240 ∷ 240 ∷ 240 ∷ []) (16 ∷ 256 ∷ 256 ∷ 256 ∷ []) false ≡ 16) × (fan_duty 17 (Some 10) (96 ∷ 240 ∷ 240 ∷ 240 ∷ []) (16 ∷ 256 ∷ 256 ∷ 256 ∷ []) true ≡ 256) × (fan_duty 0 None (96 ∷ 240 ∷ 240 ∷ 240 ∷ []) (16 ∷ 256 ∷ 256 ∷ 256 ∷ []) false ≡ 0)
 unfolding fan_duty tables_ask bound_largest is_set
 duties = (refl, refl, refl, refl)
 

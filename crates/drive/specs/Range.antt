@@ -1,13 +1,12 @@
 -- Steps are 0 to 12, ramp levels, duties and outputs 0 to 256: a law for each stage of a tick, and the ranges as what every tick keeps.
 -- Assumes nothing.
-use Rattle.std.specs.Prelude.{Bool, List, ℕ, zero, suc, ◌+◌, ◌/◌, ◌%◌, ◌^◌, ◌≤◌, eqb, ltb, get_or}
+use Rattle.std.specs.Prelude.{Bool, List, ℕ, zero, suc, ◌+◌, ◌/◌, ◌%◌, ◌^◌, ◌≤◌, eqb, ltb, get_or, Option}
 use Rattle.std.proofs.Common.{arith}
 use Rattle.laws.specs.Pointwise.{pick_each, firsts_each, replicate_each}
 use Rattle.map.specs.Bits.{is_set}
 use Rattle.state.specs.declared.Chip.{Chip}
 use Rattle.state.specs.declared.Drive.{Drive}
 use Rattle.state.specs.declared.Ramp.{Ramp}
-use Rattle.state.specs.declared.Override.{Override}
 use Rattle.state.specs.Parts.{no_ramp}
 use Rattle.state.specs.PowerOn.{at_rest}
 use Rattle.state.specs.Valid.{Valid, OverrideRange, none, some, valid_duties, valid_overrides, valid_start_duties}
@@ -41,13 +40,13 @@ bound_le bound (suc n) xs {m} h =
     omega (arith, bound_le bound n xs h, pick_each (λ k. k ≤ m) (is_set bound (2 ^ n)) {b = 0} (h n) (omega arith))
 
 -- the tables, or the override, ask at most 256
-pub tables_le : (binding : ℕ) {manual : Override} (asks : List ℕ) → OverrideRange manual → ((i : ℕ) → get_or asks i 0 ≤ 256) → tables_ask binding manual asks ≤ 256
+pub tables_le : (binding : ℕ) {manual : Option ℕ} (asks : List ℕ) → OverrideRange manual → ((i : ℕ) → get_or asks i 0 ≤ 256) → tables_ask binding manual asks ≤ 256
 unfolding tables_ask
 tables_le binding asks none h = bound_le (binding % 16) 4 asks h
 tables_le binding asks (some p) h = p
 
 -- a fan's duty is at most 256
-pub duty_le : (binding : ℕ) {manual : Override} (asks levels : List ℕ) (boosted : Bool) → OverrideRange manual → ((i : ℕ) → get_or asks i 0 ≤ 256) → ((i : ℕ) → get_or levels i 0 ≤ 256) → fan_duty binding manual asks levels boosted ≤ 256
+pub duty_le : (binding : ℕ) {manual : Option ℕ} (asks levels : List ℕ) (boosted : Bool) → OverrideRange manual → ((i : ℕ) → get_or asks i 0 ≤ 256) → ((i : ℕ) → get_or levels i 0 ≤ 256) → fan_duty binding manual asks levels boosted ≤ 256
 unfolding fan_duty
 duty_le binding asks levels boosted o h l =
     omega (arith, tables_le binding asks o h, bound_le (binding / 16) 4 levels l, pick_each (λ k. k ≤ 256) boosted {a = 256} {b = 0} (omega arith) (omega arith))

@@ -1,5 +1,5 @@
 -- Hotter readings never lower a step, what a table asks, a boost or a duty: a law for each stage of a tick. Assumes nothing.
-use Rattle.std.specs.Prelude.{◌≡◌, Bool, List, [], ◌∷◌, T, eqb, ℤ, ◌+ℤ◌, ◌-ℤ◌, ◌*ℤ◌}
+use Rattle.std.specs.Prelude.{◌≡◌, Bool, List, [], ◌∷◌, T, eqb, ℤ, ◌+ℤ◌, ◌-ℤ◌, ◌*ℤ◌, Option, Some, None}
 use Rattle.std.proofs.Math.Path.{refl}
 use Rattle.std.proofs.Math.Bool.{true, false}
 use Prim.Native.Nat.{ℕ, zero, suc, ◌*◌, ◌%◌, ◌^◌, ◌≤◌, min, max}
@@ -20,11 +20,6 @@ use Rattle.temperature.specs.declared.Reading.{Reading}
 use Rattle.temperature.specs.declared.Reading.TheVariants.{Taken, Missing}
 use Rattle.temperature.specs.Temperature.{DEGREE}
 use Rattle.temperature.specs.Order.{NoHotter, missing, taken, hotter_mono}
-use Rattle.state.specs.declared.Zone.{Zone}
-use Rattle.state.specs.declared.Boost.{Boost}
-use Rattle.state.specs.declared.Boost.TheVariants as boost
-use Rattle.state.specs.declared.Override.{Override}
-use Rattle.state.specs.declared.Override.TheVariants as override
 use Rattle.state.specs.Valid.{Rising}
 use Rattle.drive.specs.Tables.{Table, zone_in, joined_zone, zone_one, zone_two, followed_zone, sum_to, is_reached, threshold_reached, not_above, settled, new_step, asked_duty}
 use Rattle.drive.specs.Boosts.{is_latched, is_boosted}
@@ -97,7 +92,7 @@ unfolding joined_zone
 joined_mono enabled p q = pick_related NoHotter enabled (hotter_mono p q) p
 
 -- hotter zones make what a table follows no cooler
-pub followed_mono : (zs ws : List Zone) → ((i : ℕ) → NoHotter (zone_in zs i) (zone_in ws i)) → (source bindings table : ℕ) → NoHotter (followed_zone zs source bindings table) (followed_zone ws source bindings table)
+pub followed_mono : (zs ws : List Reading) → ((i : ℕ) → NoHotter (zone_in zs i) (zone_in ws i)) → (source bindings table : ℕ) → NoHotter (followed_zone zs source bindings table) (followed_zone ws source bindings table)
 unfolding followed_zone zone_one zone_two
 followed_mono zs ws h source bindings table =
     pick_related NoHotter (eqb table 0) (one LUT1_Z1)
@@ -130,12 +125,12 @@ latch_mono b n x y v w p k = go (le_z on x) (le_z on y) (lt_z x off) (lt_z y off
     go false false false false i j h = k h
 
 -- a boost that is on stays on at a hotter reading
-pub boost_mono : (e : Bool) (b : Boost) (n : ℕ) {x y : Reading} (v w : Bool) → NoHotter x y → (T v → T w) → T (is_boosted e b n x v) → T (is_boosted e b n y w)
+pub boost_mono : (e : Bool) (b : Option ℤ) (n : ℕ) {x y : Reading} (v w : Bool) → NoHotter x y → (T v → T w) → T (is_boosted e b n x v) → T (is_boosted e b n y w)
 unfolding is_boosted
 boost_mono false b n v w p k h = h
-boost_mono true boost.Off n v w p k h = h
-boost_mono true (boost.At b) n v w missing k h = tt
-boost_mono true (boost.At b) n v w (taken {x} {y} p) k h = latch_mono b n x y v w p k h
+boost_mono true None n v w p k h = h
+boost_mono true (Some b) n v w missing k h = tt
+boost_mono true (Some b) n v w (taken {x} {y} p) k h = latch_mono b n x y v w p k h
 
 -- one that is on is enough
 pub any_at : (bs : List Bool) (i : ℕ) → T (get_or bs i false) → T (any_on bs)
@@ -166,13 +161,13 @@ bound_mono bound (suc n) xs ys h =
     omega (arith, bound_mono bound n xs ys h, pick_related ◌≤◌ (is_set bound (2 ^ n)) {b = 0} {y = 0} (h n) (omega arith))
 
 -- asks no less make the tables, or the override, ask no less
-pub tables_mono : (binding : ℕ) (manual : Override) (asks more : List ℕ) → ((i : ℕ) → get_or asks i 0 ≤ get_or more i 0) → tables_ask binding manual asks ≤ tables_ask binding manual more
+pub tables_mono : (binding : ℕ) (manual : Option ℕ) (asks more : List ℕ) → ((i : ℕ) → get_or asks i 0 ≤ get_or more i 0) → tables_ask binding manual asks ≤ tables_ask binding manual more
 unfolding tables_ask
-tables_mono binding override.Off asks more h = bound_mono (binding % 16) 4 asks more h
-tables_mono binding (override.At duty) asks more h = omega arith
+tables_mono binding None asks more h = bound_mono (binding % 16) 4 asks more h
+tables_mono binding (Some duty) asks more h = omega arith
 
 -- asks no less, and a boost that stays on, give a duty no less
-pub duty_mono : (binding : ℕ) (manual : Override) (asks more levels : List ℕ) (v w : Bool) → ((i : ℕ) → get_or asks i 0 ≤ get_or more i 0) → (T v → T w) → fan_duty binding manual asks levels v ≤ fan_duty binding manual more levels w
+pub duty_mono : (binding : ℕ) (manual : Option ℕ) (asks more levels : List ℕ) (v w : Bool) → ((i : ℕ) → get_or asks i 0 ≤ get_or more i 0) → (T v → T w) → fan_duty binding manual asks levels v ≤ fan_duty binding manual more levels w
 unfolding fan_duty
 duty_mono binding manual asks more levels v w h k =
     omega (arith, tables_mono binding manual asks more h, pick_rises v w {low = 0} {high = 256} k (omega arith))

@@ -9,28 +9,28 @@ use Rattle.map.specs.Names.{Z1BE, Z2BE, LUT1_Z1, LUT2_Z2, LUT3_Z1, LUT4_Z2, LT12
 use Rattle.temperature.specs.declared.Reading.{Reading}
 use Rattle.temperature.specs.declared.Reading.TheVariants.{Taken, Missing}
 use Rattle.temperature.specs.Temperature.{HALF, DEGREE, hotter_of}
-use Rattle.state.specs.declared.Zone.{Zone}
 use Rattle.state.specs.declared.Setup.{Setup}
 use Rattle.state.specs.Parts.{no_zone}
+use Rattle.drive.specs.declared.Table.{Table as LentTable}
 
 -- ---- the zone that a table follows
 
-abbrev pub zone_in : List Zone → ℕ → Reading
-zone_in zones i = (get_or zones i no_zone).reading
+abbrev pub zone_in : List Reading → ℕ → Reading
+zone_in zones i = get_or zones i no_zone
 
 -- "Zone 1 is 1a, or the hotter of 1a and 1b while Z1bE is set, a missing one being the hotter; zone 2 likewise."
 unfoldable pub joined_zone : Bool → Reading → Reading → Reading
 joined_zone enabled a b = pick enabled (hotter_of a b) a
 
 -- source is 31h
-unfoldable pub zone_one : List Zone → ℕ → Reading
+unfoldable pub zone_one : List Reading → ℕ → Reading
 zone_one zones source = joined_zone (is_set source Z1BE) (zone_in zones 0) (zone_in zones 1)
 
-unfoldable pub zone_two : List Zone → ℕ → Reading
+unfoldable pub zone_two : List Reading → ℕ → Reading
 zone_two zones source = joined_zone (is_set source Z2BE) (zone_in zones 2) (zone_in zones 3)
 
 -- "Table 1 and 3 follow zone 1 if their 35h bit (4, 6) is set, else zone 3; table 2 and 4 follow zone 2 (bits 5, 7), else zone 4."
-unfoldable pub followed_zone : List Zone → ℕ → ℕ → ℕ → Reading
+unfoldable pub followed_zone : List Reading → ℕ → ℕ → ℕ → Reading
 followed_zone zones source bindings table =
     pick (eqb table 0) (pick (is_set bindings LUT1_Z1) (zone_one zones source) (zone_in zones 4))
     (pick (eqb table 1) (pick (is_set bindings LUT2_Z2) (zone_two zones source) (zone_in zones 5))
@@ -49,6 +49,10 @@ pub record Table : Type 0 where
 -- the table that a function is given by its parts
 abbrev pub table_from : ℤ → ℕ → List ℕ → ℕ → Table
 table_from base unit offsets hysteresis = record { base = base; unit = unit; offsets = offsets; hysteresis = hysteresis }
+
+-- the table that a function is lent
+abbrev pub lent : LentTable → Table
+lent t = table_from t.base t.unit t.offsets.now t.hysteresis
 
 -- "both count in degrees, or half degrees if LT12_RS or LT34_RS is set": how many sixteenths a count is
 unfoldable pub unit_of : Bool → ℕ

@@ -12,6 +12,8 @@ use Rattle.state.specs.declared.Ramp.{Ramp}
 use Rattle.state.specs.Parts.{no_ramp, no_boost, no_override, register_at, zone_at, zone_enabled, hot_at}
 use Rattle.state.specs.With.{with_drive}
 use Rattle.state.specs.Made.{of_registers, of_zones, of_drive, of_boosts, of_ramps, of_kick}
+use Rattle.drive.specs.declared.Ask.{Ask}
+use Rattle.drive.specs.declared.Before.{Before}
 use Rattle.drive.specs.declared.Kick.{Kick}
 use Rattle.drive.specs.declared.Driven.{Driven}
 use Rattle.drive.specs.Tables.{followed_zone, unit_of, table_from, table_of, new_step, asked_duty}
@@ -33,10 +35,6 @@ unfoldable pub step_after : Chip → ℕ → ℕ
 step_after c table = new_step (table_of c.setup (register_at c SPECIAL_FUNCTION_CONTROL_2) table) (get_or c.drive.steps table 0) (followed c table)
 
 -- a table's step and the duty it asks for
-pub record Ask : Type 0 where
-  pub step : ℕ
-  pub duty : ℕ
-
 unfoldable pub ask_after : Chip → ℕ → Ask
 ask_after c table = record { step = step_after c table; duty = asked_duty c.setup.duties (step_after c table) (followed c table) }
 
@@ -51,7 +49,7 @@ asks_after c = (ask_after c 0).duty ∷ (ask_after c 1).duty ∷ (ask_after c 2)
 -- "for zones 1a, 2a, 3, 4, and 1b, 2b while enabled"
 unfoldable pub boost_after : Chip → ℕ → Bool
 boost_after c zone =
-    is_boosted (zone_enabled (register_at c TEMPERATURE_SOURCE_SELECT) zone) (get_or c.setup.boosts zone no_boost).boost c.setup.boost_hysteresis (zone_at c zone) (get_or c.drive.boosts zone false)
+    is_boosted (zone_enabled (register_at c TEMPERATURE_SOURCE_SELECT) zone) (get_or c.setup.boosts zone no_boost) c.setup.boost_hysteresis (zone_at c zone) (get_or c.drive.boosts zone false)
 
 unfoldable pub boosts_after : Chip → List Bool
 boosts_after c =
@@ -77,7 +75,7 @@ levels_of ramps =
 
 unfoldable pub duty_after : Setup → ℕ → List ℕ → List ℕ → Bool → ℕ
 duty_after s fan asks levels boosted =
-    fan_duty (get_or s.bindings fan 0) (get_or s.overrides fan no_override).duty asks levels boosted
+    fan_duty (get_or s.bindings fan 0) (get_or s.overrides fan no_override) asks levels boosted
 
 -- a fan's duty after a tick, before the start-up kick; fans count from 0
 unfoldable pub duty_of : Chip → ℕ → ℕ
@@ -116,6 +114,10 @@ unfoldable pub ticked_chip : Chip → Ticked
 ticked_chip c = record { chip = with_drive c (drive_after c); outputs = outputs_after c }
 
 -- ---- the parts that a tick looks at
+
+-- a chip made of them
+abbrev pub seen : Before → Chip
+seen b = of_drive b.setup.now b.file.now b.zones.now b.hot.now b.old.now
 
 -- a table's step: base, unit, offsets and hysteresis, which two tables share, the old step, and the reading that it follows
 module _ (c : Chip) (table : ℕ) {base : ℤ} {unit : ℕ} {reading : Reading} (b : base ≡ get_or c.setup.bases table (pos 0)) (r : reading ≡ followed (of_zones c.registers c.zones) table) where

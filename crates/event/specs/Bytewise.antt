@@ -1,14 +1,12 @@
 -- Document 02, Q-1: a block write that is acknowledged "equals its byte writes in rising order": W events for its registers, one after the
 -- other, each of them acknowledged. Assumes nothing.
-use Rattle.std.specs.Prelude.{◌≡◌, ℕ, suc, ◌≤◌, length, replicate}
+use Rattle.std.specs.Prelude.{◌≡◌, ℕ, suc, ◌≤◌, length, replicate, Option, Some, None}
 use Rattle.std.proofs.Math.Path.{refl, ap}
 use Rattle.std.proofs.Common.{◌∙◌, arith, le-leb}
 use Rattle.std.proofs.Math.Bool.{true}
 use mathlib.Core.List.{List, [], ◌∷◌}
 use Rattle.laws.specs.Never.{never}
 use Rattle.state.specs.declared.Chip.{Chip}
-use Rattle.state.specs.declared.Latch.{Latch}
-use Rattle.state.specs.declared.Latch.TheVariants.{Open, Held}
 use Rattle.bus.specs.Latch.{latch_by, latch_after, transacted_pin, is_ours, transacted}
 use Rattle.bus.specs.Write.{wrote_register, wrote_byte}
 use Rattle.bus.specs.Changes.{register_keeps_pin}
@@ -30,10 +28,10 @@ writes_of address a [] = []
 writes_of address a (b ∷ bytes) = alone (Write address a b) ∷ writes_of address (suc a) bytes
 
 -- an address that is ours stays ours
-ours_stays : (latch : Latch) (level address : ℕ) → is_ours latch address ≡ true → is_ours (latch_by latch level address) address ≡ true
+ours_stays : (latch : Option ℕ) (level address : ℕ) → is_ours latch address ≡ true → is_ours (latch_by latch level address) address ≡ true
 unfolding is_ours latch_by
-ours_stays Open level address e = absurd (never (cc))
-ours_stays (Held ours) level address e = e
+ours_stays None level address e = absurd (never (cc))
+ours_stays (Some ours) level address e = e
 
 module _ (address : ℕ) (low : address ≤ 0x7F) where
   -- a byte write for an address of seven bits is taken

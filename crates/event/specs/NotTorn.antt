@@ -1,6 +1,6 @@
 -- Document 02, Q-4, "Fan counts that are not torn": which events leave a kept byte, and that the two bytes of a count belong together. Fans
 -- count from 0. Assumes nothing.
-use Rattle.std.specs.Prelude.{◌≡◌, ℕ, ◌-◌}
+use Rattle.std.specs.Prelude.{◌≡◌, ℕ, ◌-◌, Some}
 use Rattle.std.proofs.Common.{◌∙◌}
 use mathlib.Core.List.{List, [], ◌∷◌}
 use Rattle.map.specs.FanBytes.{low_place, high_place}
@@ -47,8 +47,8 @@ read_or_not (WriteBlock address command) =
 
 -- an R of either byte of a fan's count that is acknowledged
 pub data ReadsFan (fan : ℕ) (c : Chip) (g : Given) : Type 0 where
-  low : (address byte : ℕ) → g.event ≡ Read address (low_place fan) → (given_step c g).answer ≡ Byte byte → ReadsFan fan c g
-  high : (address byte : ℕ) → g.event ≡ Read address (high_place fan) → (given_step c g).answer ≡ Byte byte → ReadsFan fan c g
+  low : (address byte : ℕ) → g.event ≡ Read address (low_place fan) → (given_step c g).answer ≡ Byte (Some byte) → ReadsFan fan c g
+  high : (address byte : ℕ) → g.event ≡ Read address (high_place fan) → (given_step c g).answer ≡ Byte (Some byte) → ReadsFan fan c g
 
 -- ---- the two bytes
 

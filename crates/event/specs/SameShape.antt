@@ -1,6 +1,6 @@
 -- What an event keeps: no event changes the setup or how long a list of the chip is, and none but a tick changes the drive.
 -- Assumes nothing.
-use Rattle.std.specs.Prelude.{◌≡◌, Bool, List, ℕ, ◌-◌, ◌<◌, length}
+use Rattle.std.specs.Prelude.{◌≡◌, Bool, List, ℕ, ◌-◌, ◌<◌, length, Option}
 use Rattle.std.proofs.Math.Path.{refl}
 use Rattle.std.proofs.Common.{◌∙◌, ltb-true, length-set}
 use Rattle.std.proofs.Math.Bool.{true, false}
@@ -10,11 +10,7 @@ use Rattle.laws.specs.Pointwise.{pick_each}
 use Rattle.map.specs.Names.{TEMPERATURE_SOURCE_SELECT}
 use Rattle.temperature.specs.declared.Reading.{Reading}
 use Rattle.state.specs.declared.Chip.{Chip}
-use Rattle.state.specs.declared.Zone.{Zone}
-use Rattle.state.specs.declared.Gauge.{Gauge}
-use Rattle.state.specs.declared.FanKept.{FanKept}
 use Rattle.state.specs.declared.Pin.{Pin}
-use Rattle.state.specs.declared.Count.{Count}
 use Rattle.state.specs.Parts.{register_at, in_error}
 use Rattle.state.specs.With.{with_registers, with_pin, with_register, with_zone, with_volt, with_in_error, with_fan, with_hot_input}
 use Rattle.sense.specs.Missing.{missed}
@@ -48,7 +44,7 @@ pub record SameShape (c d : Chip) : Type 0 where
   pub drive : d.drive ≡ c.drive
 
 -- whatever its pin, and whatever its lists, if they are as long
-shape_but : (c : Chip) {r : List ℕ} {z : List Zone} {v f : List Gauge} {k : List FanKept} {e h : List Bool} {p : Pin} → length r ≡ length c.registers → length z ≡ length c.zones → length v ≡ length c.volts → length e ≡ length c.erring → length f ≡ length c.fans → length k ≡ length c.kept → length h ≡ length c.hot → SameShape c (record { setup = c.setup; registers = r; zones = z; volts = v; erring = e; fans = f; kept = k; hot = h; pin = p; drive = c.drive })
+shape_but : (c : Chip) {r : List ℕ} {z : List Reading} {v f : List (Option ℕ)} {k : List (Option ℕ)} {e h : List Bool} {p : Pin} → length r ≡ length c.registers → length z ≡ length c.zones → length v ≡ length c.volts → length e ≡ length c.erring → length f ≡ length c.fans → length k ≡ length c.kept → length h ≡ length c.hot → SameShape c (record { setup = c.setup; registers = r; zones = z; volts = v; erring = e; fans = f; kept = k; hot = h; pin = p; drive = c.drive })
 shape_but c a b d e g i j = record { setup = refl; registers = a; zones = b; volts = d; erring = e; fans = g; kept = i; hot = j; drive = refl }
 
 pub shape_self : (c : Chip) → SameShape c c
@@ -81,7 +77,7 @@ module _ (c : Chip) where
   unfolding read_zone with_zone
   shape_zone i r = shape_but c (zone_file_marks c.registers i r).long (length-set c.zones i _) refl refl refl refl refl
 
-  shape_volt : (i : ℕ) (n : Count) → SameShape c (with_volt c i n)
+  shape_volt : (i : ℕ) (n : Option ℕ) → SameShape c (with_volt c i n)
   unfolding with_volt
   shape_volt i n = shape_but c refl refl (length-set c.volts i _) refl refl refl refl
 
@@ -89,7 +85,7 @@ module _ (c : Chip) where
   unfolding with_in_error
   shape_erring i e = shape_but c refl refl refl (length-set c.erring i e) refl refl refl
 
-  shape_fan : (i : ℕ) (n : Count) → SameShape c (with_fan c i n)
+  shape_fan : (i : ℕ) (n : Option ℕ) → SameShape c (with_fan c i n)
   unfolding with_fan
   shape_fan i n = shape_but c refl refl refl refl (length-set c.fans i _) refl refl
 
@@ -112,7 +108,7 @@ change_shape c (Register a byte) = shape_register c a byte
 change_shape c (ZoneReading i r) = shape_zone c i r
 
 module _ (c : Chip) where
-  fed_shape : (channel : ℕ) (n : Count) → SameShape c (fed_zone c channel n)
+  fed_shape : (channel : ℕ) (n : Option ℕ) → SameShape c (fed_zone c channel n)
   fed_shape channel n = fed_each (SameShape c) c channel n (shape_zone c 4 _) (shape_zone c 5 _) (shape_self c)
 
   transacted_shape : (address : ℕ) → SameShape c (transacted c address)
@@ -134,12 +130,12 @@ module _ (c : Chip) where
   temperature_shape zone r =
       pick_each (SameShape c) (zone_heard (register_at c TEMPERATURE_SOURCE_SELECT) zone) (shape_zone c zone r) (shape_self c)
 
-  volt_shape : (channel : ℕ) (n : Count) → channel < 16 → SameShape c (read_volt c channel n)
+  volt_shape : (channel : ℕ) (n : Option ℕ) → channel < 16 → SameShape c (read_volt c channel n)
   unfolding read_volt with_volt
   volt_shape channel n l =
       shape_on (shape_on (shape_volt c channel n) (shape_registers (with_volt c channel n) _ (erred_volt_marks c.registers channel l (in_error c channel) n).long)) (shape_erring _ channel _)
 
-  voltage_shape : (channel : ℕ) (n : Count) → SameShape c (took_voltage c channel n)
+  voltage_shape : (channel : ℕ) (n : Option ℕ) → SameShape c (took_voltage c channel n)
   unfolding took_voltage
   voltage_shape channel n = go (ltb channel 16) refl
     where
@@ -147,7 +143,7 @@ module _ (c : Chip) where
       go true e = shape_on (volt_shape channel n (ltb-true channel 16 e)) (fed_shape _ channel n)
       go false e = shape_self c
 
-  fan_shape : (fan : ℕ) (n : Count) → SameShape c (took_fan c fan n)
+  fan_shape : (fan : ℕ) (n : Option ℕ) → SameShape c (took_fan c fan n)
   unfolding took_fan with_fan
   fan_shape fan n =
       pick_each (SameShape c) (ltb fan 4)

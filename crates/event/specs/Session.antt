@@ -1,6 +1,6 @@
 -- The session of document 01, "Lines and refusals", computed on the definitions, event after event: the chip that each leaves and its
 -- answer. Assumes nothing.
-use Rattle.std.specs.Prelude.{◌≡◌, refl, true, false, List, [], ◌∷◌, map, ℕ, pos, replicate}
+use Rattle.std.specs.Prelude.{◌≡◌, refl, true, false, List, [], ◌∷◌, map, ℕ, pos, replicate, Some, None}
 use Rattle.std.proofs.Common.{sym, ap, ◌∙◌}
 use Rattle.laws.specs.Count.{count_to}
 use Rattle.map.specs.Tables.{defaults, writables, lock_marks, homes}
@@ -15,8 +15,7 @@ use Rattle.temperature.specs.declared.Stated.TheVariants.{Halves}
 use Rattle.temperature.specs.Temperature.{stated_reading, byte_of, whole_of, whole_byte, hotter_of}
 use Rattle.state.specs.declared.Chip.{Chip}
 use Rattle.state.specs.declared.Ramp.{Ramp}
-use Rattle.state.specs.declared.Latch.TheVariants.{Held}
-use Rattle.state.specs.declared.Count.TheVariants.{Taken}
+use Rattle.state.specs.declared.Refusal.TheVariants as refusal
 use Rattle.state.specs.Parts.{no_ramp, register_at, zone_at, zone_enabled, hot_at}
 use Rattle.state.specs.With.{with_registers, with_pin, with_drive, with_register, with_zone, with_hot_input}
 use Rattle.state.specs.PowerOn.{default_setup, power_on, at_rest}
@@ -38,7 +37,7 @@ use Rattle.drive.specs.Tick.{followed, step_after, ask_after, steps_after, asks_
 use Rattle.event.specs.declared.Event.{Event}
 use Rattle.event.specs.declared.Event.TheVariants.{Temperature, Hot, Tick, Write, Read}
 use Rattle.event.specs.declared.Answer.{Answer}
-use Rattle.event.specs.declared.Answer.TheVariants.{Nothing, Refused, Acknowledged, Byte, NoByte, Ticked}
+use Rattle.event.specs.declared.Answer.TheVariants.{Nothing, Refused, Acknowledged, Byte, Ticked}
 use Rattle.event.specs.Event.{index_in, reading_within, stated_in, level_in, level_of, quiet_step, refused_step, event_in, refusal_of, tick_answer, written_answer, seen_answer, read_answer, taken_step, stepped_chip}
 use Rattle.event.specs.Run.{Given, alone, answers_to}
 use Rattle.event.specs.Ticking.{tick_from, tick_by_parts}
@@ -47,7 +46,7 @@ use Rattle.event.specs.Ticking.{tick_from, tick_by_parts}
 unfoldable pub session : List Given
 session =
     map alone
-    (Tick ∷ Temperature 1 (Halves (pos 70)) ∷ Temperature 5 (Halves (pos 66)) ∷ Tick ∷ Write 0x2C 0xBF 0x01 ∷ Hot 1 (Taken 1) ∷ Tick ∷ Write 0x2C 0xB5 0x80 ∷ Tick ∷ Read 0x2C 0x52 ∷ Read 0x2D 0x52 ∷ Temperature 6 (Halves (pos 10)) ∷ [])
+    (Tick ∷ Temperature 1 (Halves (pos 70)) ∷ Temperature 5 (Halves (pos 66)) ∷ Tick ∷ Write 0x2C 0xBF 0x01 ∷ Hot 1 (Some 1) ∷ Tick ∷ Write 0x2C 0xB5 0x80 ∷ Tick ∷ Read 0x2C 0x52 ∷ Read 0x2D 0x52 ∷ Temperature 6 (Halves (pos 10)) ∷ [])
 
 unfoldable pub answers : List Answer
 answers =
@@ -60,9 +59,9 @@ answers =
     ∷ Ticked (record { alert = false; duty1 = 96; duty2 = 80; output1 = 96; output2 = 80; errors = 0 })
     ∷ Acknowledged true
     ∷ Ticked (record { alert = true; duty1 = 96; duty2 = 80; output1 = 96; output2 = 80; errors = 1 })
-    ∷ Byte 0x21
-    ∷ NoByte
-    ∷ Refused 2
+    ∷ Byte (Some 0x21)
+    ∷ Byte None
+    ∷ Refused refusal.Event
     ∷ []
 
 -- ---- the chips between the events
@@ -116,7 +115,7 @@ chip4 = with_drive chip3 driven2.drive
 
 -- after W 2C BF 01, which latches the address
 abbrev chip5 : Chip
-chip5 = with_register (with_pin chip4 (record { level = 0; latch = Held 0x2C })) 0xBF 0x01
+chip5 = with_register (with_pin chip4 (record { level = 0; latch = Some 0x2C })) 0xBF 0x01
 
 -- after H 1 1
 abbrev chip6 : Chip
@@ -155,7 +154,7 @@ all_answered done = refl
 all_answered (next {a = a} g h) = rw g.step (ap (λ (xs : List Answer). a ∷ xs) (all_answered h))
 
 -- T 1 70, T 5 66, and T 6 10, which is refused
-temperatures : Answered chip1 (Temperature 1 (Halves (pos 70))) Nothing chip2 × Answered chip2 (Temperature 5 (Halves (pos 66))) Nothing chip3 × Answered chip10 (Temperature 6 (Halves (pos 10))) (Refused 2) chip10
+temperatures : Answered chip1 (Temperature 1 (Halves (pos 70))) Nothing chip2 × Answered chip2 (Temperature 5 (Halves (pos 66))) Nothing chip3 × Answered chip10 (Temperature 6 (Halves (pos 10))) (Refused refusal.Event) chip10
 unfolding stepped_chip refusal_of event_in index_in stated_in reading_within stated_reading taken_step quiet_step refused_step took_temperature zone_heard zone_three_fed read_zone zone_file compared_zone zone_watched temps_watched low_temp high_temp zone_number is_set register_at with_zone power_on defaults
 temperatures = (record { step = refl }, record { step = refl }, record { step = refl })
 
@@ -165,12 +164,12 @@ unfolding stepped_chip refusal_of event_in taken_step written_answer wrote_byte 
 writes = (record { step = refl }, record { step = refl })
 
 -- H 1 1
-hot : Answered chip5 (Hot 1 (Taken 1)) Nothing chip6
+hot : Answered chip5 (Hot 1 (Some 1)) Nothing chip6
 unfolding stepped_chip refusal_of event_in index_in level_in level_of taken_step quiet_step took_hot
 hot = record { step = refl }
 
 -- R 2C 52, R 2D 52
-reads : Answered chip10 (Read 0x2C 0x52) (Byte 0x21) chip10 × Answered chip10 (Read 0x2D 0x52) NoByte chip10
+reads : Answered chip10 (Read 0x2C 0x52) (Byte (Some 0x21)) chip10 × Answered chip10 (Read 0x2D 0x52) (Byte None) chip10
 unfolding stepped_chip refusal_of event_in taken_step read_answer seen_answer read_byte transacted transacted_pin latch_after latch_by is_ours given_register given_at kept_after kept_as fan_byte_at byte_of_kind shown_register shown_home shown_kind whole_byte whole_of byte_of zone_at with_register with_zone with_hot_input home_of homes kind_of power_on
 reads = (record { step = refl }, record { step = refl })
 

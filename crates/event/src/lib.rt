@@ -1,16 +1,24 @@
-// The events of the chip: each is taken, or refused by its number (document 01, "Events" and "Lines and refusals"; document 02, Q-1, Q-7 and
-// Q-12).
+// The events of the chip: each is taken, or refused (document 01, "Events" and "Lines and refusals"; document 02, Q-1, Q-7 and Q-12).
 #![tactic(auto)]
 
-ghost use Rattle.std.specs.Prelude.{◌≡◌, true, eqb, length};
-ghost use Rattle.event.specs.Event.{index_in, reading_within, stated_in, count_in, level_in, level_of, temperature_in, voltage_in, fan_in, hot_in, address_in, event_in, refusal_of, stepped_chip};
+ghost use Rattle.std.specs.Prelude.{◌≡◌, ◌-◌, ◌==◌, true, length};
+ghost use Rattle.event.specs.Event.{stated_in, count_in, level_in, level_of, temperature_in, voltage_in, fan_in, hot_in, address_in, event_in, refusal_of, tick_answer, taken_step, stepped_chip};
+ghost use Rattle.map.specs.Names.{TEMPERATURE_SOURCE_SELECT};
+ghost use Rattle.state.specs.Parts.{register_at};
+ghost use Rattle.state.specs.Made.{of_readings};
+ghost use Rattle.sense.specs.Events.{read_zone, took_temperature, took_voltage, took_fan, took_hot};
+ghost use Rattle.sense.specs.Missing.{missed};
+ghost use Rattle.drive.specs.Tick.{ticked_chip};
+ghost use Rattle.bus.specs.Latch.{transacted};
+ghost use Rattle.bus.specs.Write.{wrote_byte};
+ghost use Rattle.bus.specs.Read.{of_parts, read_byte};
+ghost use Rattle.bus.specs.Block.{block_bytes, read_block, wrote_block};
 ghost use Rattle.temperature.specs.Temperature.{stated_reading};
 ghost use Rattle.bus.specs.Dump.{dump_answer, dumped_into};
-ghost use Rattle.bus.specs.Block.{block_bytes};
 
-use bus::{Change, Dumped};
+use bus::{Change, Readings};
 use map::{Block, registers};
-use state::{Chip, Count, Gauge, Zone};
+use state::{Chip, Refusal};
 use temperature::{HALF, Reading, Stated};
 
 // An event, with the numbers as they came in. The bytes of a block write are lent beside it, and their count is how many are lent.
@@ -18,14 +26,14 @@ use temperature::{HALF, Reading, Stated};
 pub enum Event {
     // T and U: zone 1 to 5, and the temperature in half degrees or in sixteenths.
     Temperature { zone: u8, stated: Stated },
-    // V: channel 1 to 16, and its count.
-    Voltage { channel: u8, count: Count },
-    // F: fan 1 to 4, and its count.
-    Fan { fan: u8, count: Count },
-    // H: input 1 to 4, 0 or 1.
-    Hot { input: u8, level: Count },
-    // A: the address pin's level, 0 to 2.
-    Pin { level: Count },
+    // V: channel 1 to 16, and its count, or missing.
+    Voltage { channel: u8, count: Option<u16> },
+    // F: fan 1 to 4, and its count, or missing.
+    Fan { fan: u8, count: Option<u16> },
+    // H: input 1 to 4, 0 or 1, never missing.
+    Hot { input: u8, level: Option<u16> },
+    // A: the address pin's level, 0 to 2, never missing.
+    Pin { level: Option<u16> },
     // K: 50 ms.
     Tick,
     // X: the reset pin.
@@ -39,7 +47,7 @@ pub enum Event {
 }
 
 // What a tick shows.
-#[derive(Clone, Copy)]
+#[derive(Clone, Copy, PartialEq, Eq)]
 pub struct Tick {
     pub alert: bool,
     pub duty1: u16,
@@ -50,21 +58,19 @@ pub struct Tick {
 }
 
 // What an event answers.
-#[derive(Clone, Copy)]
+// Stays: a refusal is one of the answers, and no Err, for the chip after it is answered too.
+#[derive(Clone, Copy, PartialEq, Eq)]
 pub enum Answer {
     Nothing,
-    // The refusal's number.
-    Refused(u8),
+    Refused(Refusal),
     // Of W: whether it was acknowledged.
     Acknowledged(bool),
     // Of R: the byte, or none where it was not acknowledged.
-    Byte(u8),
-    NoByte,
+    Byte(Option<u8>),
     // Of K.
     Ticked(Tick),
-    // Of G: the first register and the count of what the chip shows, or none where it was not acknowledged.
-    Block(u8, u8),
-    NoBlock,
+    // Of G: the block that the chip shows, or none where it was not acknowledged.
+    Block(Option<Block>),
     // Of P: whether it was acknowledged.
     BlockWritten(bool),
 }
@@ -75,11 +81,6 @@ pub struct Stepped {
     pub chip: Chip,
     pub answer: Answer,
 }
-
-// The refusals of an event number out of range, and of too many bytes beside it.
-const EVENT_OUT_OF_RANGE: u8 = 2;
-
-const BYTES_TOO_MANY: u8 = 4;
 
 // The longest block.
 pub const BLOCK_MOST: usize = 32;
@@ -98,90 +99,31 @@ const ADDRESS_TOP: u8 = 0x7F;
 
 // ---- ranges
 
-// A number from 1 to most.
-fn index_in(most: u8, n: u8) -> bool
-    ensures { result ≡ index_in most n }
-{
-    if 1 <= n {
-        return n <= most;
-    }
-    false
-}
-
-// A signed number from least to most.
-fn reading_within(least: i16, most: i16, n: i16) -> bool
-    ensures { result ≡ reading_within least most n }
-{
-    if least <= n {
-        return n <= most;
-    }
-    false
-}
-
+#[tactic(auto, unfolding(crate::specs::Event::stated_in, crate::specs::Event::reading_within))]
 fn stated_in(stated: Stated) -> bool
     ensures { result ≡ stated_in stated }
 {
     match stated {
         Stated::Missing => true,
-        Stated::Halves(h) => reading_within(HALVES_LEAST, HALVES_MOST, h),
-        Stated::Sixteenths(n) => reading_within(SIXTEENTHS_LEAST, SIXTEENTHS_MOST, n),
+        Stated::Halves(h) => (HALVES_LEAST..=HALVES_MOST).contains(&h),
+        Stated::Sixteenths(n) => (SIXTEENTHS_LEAST..=SIXTEENTHS_MOST).contains(&n),
     }
 }
 
 // A count up to most, or missing.
-fn count_in(most: u16, count: Count) -> bool
+#[tactic(auto, unfolding(crate::specs::Event::count_in))]
+fn count_in(most: u16, count: Option<u16>) -> bool
     ensures { result ≡ count_in most count }
 {
-    let Count::Taken(n) = count else {
-        return true;
-    };
-    n <= most
+    count.is_none_or(|n| n <= most)
 }
 
 // A level up to most, never missing.
-fn level_in(most: u16, level: Count) -> bool
+#[tactic(auto, unfolding(crate::specs::Event::level_in))]
+fn level_in(most: u16, level: Option<u16>) -> bool
     ensures { result ≡ level_in most level }
 {
-    let Count::Taken(n) = level else {
-        return false;
-    };
-    n <= most
-}
-
-fn temperature_in(zone: u8, stated: Stated) -> bool
-    ensures { result ≡ temperature_in zone stated }
-{
-    if index_in(5, zone) {
-        return stated_in(stated);
-    }
-    false
-}
-
-fn voltage_in(channel: u8, count: Count) -> bool
-    ensures { result ≡ voltage_in channel count }
-{
-    if index_in(16, channel) {
-        return count_in(255, count);
-    }
-    false
-}
-
-fn fan_in(fan: u8, count: Count) -> bool
-    ensures { result ≡ fan_in fan count }
-{
-    if index_in(4, fan) {
-        return count_in(16383, count);
-    }
-    false
-}
-
-fn hot_in(input: u8, level: Count) -> bool
-    ensures { result ≡ hot_in input level }
-{
-    if index_in(4, input) {
-        return level_in(1, level);
-    }
-    false
+    level.is_some_and(|n| n <= most)
 }
 
 fn address_in(address: u8) -> bool
@@ -190,63 +132,42 @@ fn address_in(address: u8) -> bool
     address <= ADDRESS_TOP
 }
 
+#[tactic(auto, unfolding(crate::specs::Event::event_in, crate::specs::Event::index_in))]
 fn event_in(event: Event) -> bool
     ensures { result ≡ event_in event }
 {
     match event {
-        Event::Temperature { zone, stated } => temperature_in(zone, stated),
-        Event::Voltage { channel, count } => voltage_in(channel, count),
-        Event::Fan { fan, count } => fan_in(fan, count),
-        Event::Hot { input, level } => hot_in(input, level),
+        Event::Temperature { zone, stated } => (1..=5).contains(&zone) && stated_in(stated),
+        Event::Voltage { channel, count } => (1..=16).contains(&channel) && count_in(255, count),
+        Event::Fan { fan, count } => (1..=4).contains(&fan) && count_in(16383, count),
+        Event::Hot { input, level } => (1..=4).contains(&input) && level_in(1, level),
         Event::Pin { level } => level_in(2, level),
-        Event::Tick => true,
-        Event::Reset => true,
-        Event::Write {
-            address,
-            register: _,
-            byte: _,
-        } => address_in(address),
-        Event::Read {
-            address,
-            register: _,
-        } => address_in(address),
-        Event::ReadBlock {
-            address,
-            command: _,
-        } => address_in(address),
-        Event::WriteBlock {
-            address,
-            command: _,
-        } => address_in(address),
+        Event::Tick | Event::Reset => true,
+        Event::Write { address, .. }
+        | Event::Read { address, .. }
+        | Event::ReadBlock { address, .. }
+        | Event::WriteBlock { address, .. } => address_in(address),
     }
 }
 
-// 0, or the refusal of an event that has too many bytes beside it or a number out of range: of any chip, since no range asks for one.
-pub fn refusal_of(event: Event, bytes: &[u8]) -> u8
+// The refusal of an event that has too many bytes beside it or a number out of range, or none: of any chip, since no range asks for one.
+#[tactic(auto, unfolding(crate::specs::Event::refusal_of))]
+pub fn refusal_of(event: Event, bytes: &[u8]) -> Option<Refusal>
     ensures { result ≡ refusal_of event bytes.now }
 {
-    if bytes.len() <= BLOCK_MOST {
-        if event_in(event) {
-            return 0;
-        }
-        return EVENT_OUT_OF_RANGE;
+    if bytes.len() > BLOCK_MOST {
+        Some(Refusal::Spelling)
+    } else if event_in(event) {
+        None
+    } else {
+        Some(Refusal::Event)
     }
-    BYTES_TOO_MANY
-}
-
-// Whether that is 0. It is asked of every event, and the compiler puts this test, but not the number, into `step`.
-fn is_taken(event: Event, bytes: &[u8]) -> bool
-    ensures { result ≡ eqb (refusal_of event bytes.now) 0 }
-{
-    if bytes.len() <= BLOCK_MOST {
-        return event_in(event);
-    }
-    false
 }
 
 // ---- the events
 
 // The reading that a temperature states; in range, half degrees fit as sixteenths.
+#[tactic(auto, using(crate::proofs::Ranges::halves_fit), unfolding(crate::specs::Event::stated_in, temperature::specs::Temperature::stated_reading))]
 fn stated_reading(stated: Stated) -> Reading
     requires { stated_in stated ≡ true }
     ensures { result ≡ stated_reading stated }
@@ -259,191 +180,244 @@ fn stated_reading(stated: Stated) -> Reading
 }
 
 // A level as a number; 0 where it is missing.
-fn level_of(level: Count) -> u8
+#[tactic(auto, unfolding(crate::specs::Event::level_of))]
+fn level_of(level: Option<u16>) -> u8
     ensures { result ≡ level_of level }
 {
-    let Count::Taken(n) = level else {
-        return 0;
-    };
-    (n % 256) as u8
+    (level.unwrap_or(0) % 256) as u8
 }
 
-// One event: the chip after it and its answer. A refused event leaves the chip as it was. The chip is large to hand on, so it is held here
-// alone: the functions of `sense`, `bus` and `drive` are given the parts that they look at, and what they answer is stored in its place.
+// 31h, which says what sets zones 3 and 4.
+#[tactic(auto, unfolding(state::specs::Parts::register_at))]
+fn source_of(chip: &Chip) -> u8
+    ensures { result ≡ register_at chip.now TEMPERATURE_SOURCE_SELECT }
+{
+    chip.registers[registers::TEMPERATURE_SOURCE_SELECT as usize]
+}
+
+// The parts by which its registers are shown.
+fn readings_of(chip: &Chip) -> Readings
+    ensures { of_parts result ≡ of_readings chip.now.registers chip.now.zones chip.now.volts chip.now.fans }
+{
+    Readings {
+        file: &chip.registers,
+        zones: &chip.zones,
+        volts: &chip.volts,
+        fans: &chip.fans,
+    }
+}
+
+// A zone, counted from 0, has a reading, and it is compared.
+#[tactic(auto, unfolding(sense::specs::Events::read_zone, state::specs::With::with_zone))]
+fn read_zone(chip: &mut Chip, zone: u8, reading: Reading)
+    ensures { chip.new ≡ read_zone chip.old zone reading }
+{
+    chip.zones = state::with(chip.zones, zone, reading);
+    sense::compare_zone(&mut chip.registers, zone, reading);
+}
+
+#[tactic(auto, unfolding(crate::specs::Event::index_in, sense::specs::Events::took_temperature))]
+fn take_temperature(chip: &mut Chip, zone: u8, stated: Stated)
+    requires { temperature_in zone stated ≡ true }
+    ensures { chip.new ≡ took_temperature chip.old (zone - 1) (stated_reading stated) }
+{
+    let at = zone - 1;
+    if sense::hears_zone(source_of(chip), at) {
+        read_zone(chip, at, stated_reading(stated));
+    }
+}
+
+#[tactic(auto, using(sense::specs::Events::voltage_by_parts), unfolding(crate::specs::Event::index_in, state::specs::Parts::register_at, state::specs::Parts::in_error, state::specs::With::with_volt, state::specs::With::with_in_error, sense::specs::Events::fed_zone))]
+fn take_voltage(chip: &mut Chip, channel: u8, count: Option<u16>)
+    requires { voltage_in channel count ≡ true }
+    ensures { chip.new ≡ took_voltage chip.old (channel - 1) count }
+{
+    let at = channel - 1;
+    let i = at as usize;
+    chip.volts[i] = count;
+    chip.erring[i] = sense::compare_voltage(&mut chip.registers, at, chip.erring[i], count);
+    let source = source_of(chip);
+    let reading = sense::volt_reading(count);
+    if sense::feeds_three(source, at) {
+        read_zone(chip, 4, reading);
+    } else if sense::feeds_four(source, at) {
+        read_zone(chip, 5, reading);
+    }
+}
+
+#[tactic(auto, using(sense::specs::Events::fan_by_parts), unfolding(crate::specs::Event::index_in, state::specs::With::with_fan))]
+fn take_fan(chip: &mut Chip, fan: u8, count: Option<u16>)
+    requires { fan_in fan count ≡ true }
+    ensures { chip.new ≡ took_fan chip.old (fan - 1) count }
+{
+    let at = fan - 1;
+    chip.fans[at as usize] = count;
+    sense::compare_count(&mut chip.registers, at, count);
+}
+
+#[tactic(auto, unfolding(crate::specs::Event::index_in, sense::specs::Events::took_hot, state::specs::With::with_hot_input))]
+fn take_hot(chip: &mut Chip, input: u8, level: Option<u16>)
+    requires { hot_in input level ≡ true }
+    ensures { chip.new ≡ took_hot chip.old (input - 1) (level_of level == 1) }
+{
+    chip.hot[(input - 1) as usize] = level_of(level) == 1;
+}
+
+#[tactic(auto, using(crate::specs::Ticking::tick_by_parts), unfolding(crate::specs::Event::taken_step, crate::specs::Event::tick_answer))]
+fn take_tick(chip: &mut Chip) -> Tick
+    ensures { tick_answer (ticked_chip (missed chip.old)) ≡ record { chip = chip.new; answer = Answer.Ticked result } }
+{
+    sense::mark_missing(&mut chip.registers, &chip.zones, &chip.volts, &chip.fans);
+    let driven = drive::tick(
+        &chip.setup,
+        &chip.registers,
+        &chip.zones,
+        &chip.hot,
+        &chip.drive,
+    );
+    chip.drive = driven.drive;
+    Tick {
+        alert: sense::alert_active(&chip.registers),
+        duty1: driven.drive.duties[0],
+        duty2: driven.drive.duties[1],
+        output1: driven.outputs[0],
+        output2: driven.outputs[1],
+        errors: sense::errors_standing(&chip.registers),
+    }
+}
+
+// The latch of a bus transaction.
+#[tactic(auto, unfolding(bus::specs::Latch::transacted))]
+fn transact(chip: &mut Chip, address: u8)
+    ensures { chip.new ≡ transacted chip.old address }
+{
+    chip.pin = bus::transact(chip.pin, address);
+}
+
+// Whether it is acknowledged.
+#[tactic(auto, using(bus::specs::Write::change_by_parts), unfolding(bus::specs::Write::wrote_byte, bus::specs::Write::wrote_register, bus::specs::Write::changed, state::specs::With::with_register))]
+fn write(chip: &mut Chip, address: u8, register: u8, byte: u8) -> bool
+    ensures { wrote_byte chip.old address register byte ≡ record { chip = chip.new; ack = result } }
+{
+    transact(chip, address);
+    if !bus::answers(chip.pin, address) {
+        return false;
+    }
+    match bus::change_of(&chip.registers, chip.zones, register, byte) {
+        Change::Nothing => {}
+        Change::Register(home, stored) => chip.registers[home as usize] = stored,
+        Change::ZoneReading(zone, reading) => read_zone(chip, zone, reading),
+    }
+    true
+}
+
+// The byte that it shows, or none where it is not acknowledged.
+#[tactic(auto, using(bus::specs::Read::read_register_by_parts), unfolding(bus::specs::Read::read_byte, bus::specs::Read::read_register))]
+fn read(chip: &mut Chip, address: u8, register: u8) -> Option<u8>
+    ensures { read_byte chip.old address register ≡ record { chip = chip.new; shown = result } }
+{
+    transact(chip, address);
+    if !bus::answers(chip.pin, address) {
+        return None;
+    }
+    let read = bus::read_register(&readings_of(chip), chip.kept, register);
+    // Stays: an array is stored in a field from a variable alone, and not from a field.
+    let kept = read.kept;
+    chip.kept = kept;
+    Some(read.byte)
+}
+
+// The block that it shows, or none where it is not acknowledged.
+#[tactic(auto, unfolding(bus::specs::Block::read_block))]
+fn read_block(chip: &mut Chip, address: u8, command: u8) -> Option<Block>
+    ensures { read_block chip.old address command ≡ record { chip = chip.new; block = result } }
+{
+    transact(chip, address);
+    bus::block_read(chip.pin, address, command)
+}
+
+// Whether it is acknowledged.
+#[tactic(auto, using(bus::specs::Blocks::wrote_from_by_parts), unfolding(bus::specs::Block::wrote_block, bus::specs::Block::wrote_by))]
+fn write_block(chip: &mut Chip, address: u8, command: u8, bytes: &[u8]) -> bool
+    ensures { wrote_block chip.old address command bytes.now ≡ record { chip = chip.new; ack = result } }
+{
+    transact(chip, address);
+    match bus::block_written(chip.pin, address, command, bytes) {
+        None => false,
+        Some(block) => {
+            chip.zones = bus::write_block(&mut chip.registers, chip.zones, block.first, bytes);
+            true
+        }
+    }
+}
+
+// An event with its numbers in range, and its answer.
+#[tactic(auto, unfolding(crate::specs::Event::event_in, crate::specs::Event::quiet_step, crate::specs::Event::written_answer, crate::specs::Event::seen_answer, crate::specs::Event::read_answer, crate::specs::Event::block_answer, crate::specs::Event::seen_block_answer, crate::specs::Event::written_block_answer, crate::specs::Event::taken_step, sense::specs::Events::took_pin, sense::specs::Events::took_reset))]
+fn take_in_range(chip: &mut Chip, event: Event, bytes: &[u8]) -> Answer
+    requires { event_in event ≡ true }
+    ensures { taken_step chip.old event bytes.now ≡ record { chip = chip.new; answer = result } }
+{
+    match event {
+        Event::Temperature { zone, stated } => take_temperature(chip, zone, stated),
+        Event::Voltage { channel, count } => take_voltage(chip, channel, count),
+        Event::Fan { fan, count } => take_fan(chip, fan, count),
+        Event::Hot { input, level } => take_hot(chip, input, level),
+        Event::Pin { level } => chip.pin.level = level_of(level),
+        Event::Tick => return Answer::Ticked(take_tick(chip)),
+        Event::Reset => sense::take_reset(&mut chip.registers),
+        Event::Write {
+            address,
+            register,
+            byte,
+        } => return Answer::Acknowledged(write(chip, address, register, byte)),
+        Event::Read { address, register } => return Answer::Byte(read(chip, address, register)),
+        Event::ReadBlock { address, command } => {
+            return Answer::Block(read_block(chip, address, command));
+        }
+        Event::WriteBlock { address, command } => {
+            return Answer::BlockWritten(write_block(chip, address, command, bytes));
+        }
+    }
+    Answer::Nothing
+}
+
+// One event on a chip that is lent, and its answer. A refused event leaves the chip as it was.
+#[tactic(auto, using(crate::specs::Refusal::taken_in, crate::specs::Refusal::step_taken, crate::specs::Refusal::step_refused), unfolding(crate::specs::Event::refused_step))]
+pub fn take(chip: &mut Chip, event: Event, bytes: &[u8]) -> Answer
+    ensures { (result ≡ (stepped_chip chip.old event bytes.now).answer) × (chip.new ≡ (stepped_chip chip.old event bytes.now).chip) }
+{
+    match refusal_of(event, bytes) {
+        Some(refusal) => Answer::Refused(refusal),
+        None => take_in_range(chip, event, bytes),
+    }
+}
+
+// The same by value: the chip after the event and its answer. The chip is large to hand on, so it is put where it is answered at once.
 pub fn step(chip: Chip, event: Event, bytes: &[u8]) -> Stepped
     ensures { result ≡ stepped_chip chip event bytes.now }
 {
-    let mut next = chip;
-    let mut answer = Answer::Nothing;
-    if is_taken(event, bytes) {
-        match event {
-            Event::Temperature { zone, stated } => {
-                let at = zone - 1;
-                let source = next.registers[registers::TEMPERATURE_SOURCE_SELECT as usize];
-                if sense::hears_zone(source, at) {
-                    let reading = stated_reading(stated);
-                    let z = Zone { reading: reading };
-                    next.zones[at as usize] = z;
-                    sense::compare_zone(&mut next.registers, at, reading);
-                }
-            }
-            Event::Voltage { channel, count } => {
-                let at = channel - 1;
-                let gauge = Gauge { count: count };
-                next.volts[at as usize] = gauge;
-                let before = next.erring[at as usize];
-                let erring = sense::compare_voltage(&mut next.registers, at, before, count);
-                next.erring[at as usize] = erring;
-                let source = next.registers[registers::TEMPERATURE_SOURCE_SELECT as usize];
-                let reading = sense::volt_reading(count);
-                let z = Zone { reading: reading };
-                if sense::feeds_three(source, at) {
-                    next.zones[4] = z;
-                    sense::compare_zone(&mut next.registers, 4, reading);
-                } else if sense::feeds_four(source, at) {
-                    next.zones[5] = z;
-                    sense::compare_zone(&mut next.registers, 5, reading);
-                }
-            }
-            Event::Fan { fan, count } => {
-                let at = fan - 1;
-                let gauge = Gauge { count: count };
-                next.fans[at as usize] = gauge;
-                sense::compare_count(&mut next.registers, at, count);
-            }
-            Event::Hot { input, level } => {
-                let at = input - 1;
-                next.hot[at as usize] = level_of(level) == 1;
-            }
-            Event::Pin { level } => {
-                next.pin.level = level_of(level);
-            }
-            Event::Tick => {
-                let zones = next.zones;
-                let volts = next.volts;
-                let fans = next.fans;
-                sense::mark_missing(&mut next.registers, zones, volts, fans);
-                let setup = next.setup;
-                let hot = next.hot;
-                let old = next.drive;
-                let driven = drive::tick(setup, &next.registers, zones, hot, old);
-                let drive = driven.drive;
-                let duty1 = drive.duties[0];
-                let duty2 = drive.duties[1];
-                let output1 = driven.outputs[0];
-                let output2 = driven.outputs[1];
-                next.drive = drive;
-                answer = Answer::Ticked(Tick {
-                    alert: sense::alert_active(&next.registers),
-                    duty1: duty1,
-                    duty2: duty2,
-                    output1: output1,
-                    output2: output2,
-                    errors: sense::errors_standing(&next.registers),
-                });
-            }
-            Event::Reset => {
-                sense::take_reset(&mut next.registers);
-            }
-            Event::Write {
-                address,
-                register,
-                byte,
-            } => {
-                let old = next.pin;
-                let pin = bus::transact(old, address);
-                let ack = bus::answers(pin, address);
-                next.pin = pin;
-                answer = Answer::Acknowledged(ack);
-                if ack {
-                    let zones = next.zones;
-                    match bus::change_of(&next.registers, zones, register, byte) {
-                        Change::Nothing => {}
-                        Change::Register(home, stored) => {
-                            next.registers[home as usize] = stored;
-                        }
-                        Change::ZoneReading(zone, reading) => {
-                            let written = state::with_reading(zones, zone, reading);
-                            next.zones = written;
-                            sense::compare_zone(&mut next.registers, zone, reading);
-                        }
-                    }
-                }
-            }
-            Event::Read { address, register } => {
-                let old = next.pin;
-                let pin = bus::transact(old, address);
-                let ack = bus::answers(pin, address);
-                next.pin = pin;
-                answer = Answer::NoByte;
-                if ack {
-                    let zones = next.zones;
-                    let volts = next.volts;
-                    let fans = next.fans;
-                    let kept = next.kept;
-                    let file = &next.registers;
-                    let read = bus::read_register(file, zones, volts, fans, kept, register);
-                    let left = read.kept;
-                    next.kept = left;
-                    answer = Answer::Byte(read.byte);
-                }
-            }
-            Event::ReadBlock { address, command } => {
-                let old = next.pin;
-                let pin = bus::transact(old, address);
-                next.pin = pin;
-                answer = Answer::NoBlock;
-                match bus::block_read(pin, address, command) {
-                    Block::Unlisted => {}
-                    Block::Fixed(first, count) => {
-                        answer = Answer::Block(first, count);
-                    }
-                }
-            }
-            Event::WriteBlock { address, command } => {
-                let old = next.pin;
-                let pin = bus::transact(old, address);
-                next.pin = pin;
-                answer = Answer::BlockWritten(false);
-                match bus::block_written(pin, address, command, bytes) {
-                    Block::Unlisted => {}
-                    Block::Fixed(first, _) => {
-                        let zones = next.zones;
-                        let left = bus::write_block(&mut next.registers, zones, first, bytes);
-                        next.zones = left;
-                        answer = Answer::BlockWritten(true);
-                    }
-                }
-            }
-        }
-    } else {
-        let refusal = refusal_of(event, bytes);
-        answer = Answer::Refused(refusal);
-    }
-    Stepped {
-        chip: next,
-        answer: answer,
-    }
+    let mut stepped = Stepped {
+        chip,
+        answer: Answer::Nothing,
+    };
+    stepped.answer = take(&mut stepped.chip, event, bytes);
+    stepped
 }
 
 // ---- what a chip shows
 
 // The register dump of a chip, into a lent buffer.
-pub fn dump(chip: Chip, out: &mut [u8]) -> Dumped
+#[tactic(auto, using(bus::specs::Dump::dumped_by_parts))]
+pub fn dump(chip: Chip, out: &mut [u8]) -> Result<usize, Refusal>
     ensures { (result ≡ dump_answer out.old) × (out.new ≡ dumped_into chip out.old) }
 {
-    let zones = chip.zones;
-    let volts = chip.volts;
-    let fans = chip.fans;
-    bus::dump(&chip.registers, zones, volts, fans, out)
+    bus::dump(&readings_of(&chip), out)
 }
 
 // What the registers of a chip from the first on show, as many as bytes are lent: of a block read that was acknowledged, its bytes.
+#[tactic(auto, using(bus::specs::Blocks::block_bytes_by_parts))]
 pub fn show_block(chip: Chip, first: u8, bytes: &mut [u8])
     ensures { bytes.new ≡ block_bytes chip first (length bytes.old) }
 {
-    let zones = chip.zones;
-    let volts = chip.volts;
-    let fans = chip.fans;
-    bus::show_block(&chip.registers, zones, volts, fans, first, bytes);
+    bus::show_block(&readings_of(&chip), first, bytes);
 }

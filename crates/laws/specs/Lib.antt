@@ -10,6 +10,7 @@ pub mod Pointwise
 pub mod Rises
 pub mod Every
 pub mod AllPass
+pub mod Passing
 pub mod Tried
 pub mod Store
 pub mod Masks

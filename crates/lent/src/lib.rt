@@ -8,20 +8,19 @@ ghost use Rattle.event.specs.Event.{stepped_chip};
 ghost use Rattle.line.specs.Line.{taken_line, buffer_after};
 ghost use Rattle.state.specs.Powered.{powered};
 
-use bus::Dumped;
 use event::{Event, Stepped};
 use line::{Session, Taken};
-use state::{Chip, Powered, Setup};
+use state::{Chip, Powered, Refusal, Setup};
 
 // Power-on from a setup, which may be refused.
 pub fn power_again(chip: Chip, setup: Setup) -> Powered
     ensures { result ≡ powered chip setup }
 {
     let mut held = chip;
-    let refusal = port::power_on(&mut held, setup);
+    let done = port::power_on(&mut held, setup);
     Powered {
         chip: held,
-        refusal: refusal,
+        refusal: done.err(),
     }
 }
 
@@ -31,10 +30,7 @@ pub fn take_event(chip: Chip, event: Event, bytes: &[u8]) -> Stepped
 {
     let mut held = chip;
     let answer = port::take_event(&mut held, event, bytes);
-    Stepped {
-        chip: held,
-        answer: answer,
-    }
+    Stepped { chip: held, answer }
 }
 
 // One line, with a lent output for its answer.
@@ -45,12 +41,12 @@ pub fn take_line(session: Session, line: &[u8], out: &mut [u8]) -> Taken
     let reply = port::take_line(&mut held, line, out);
     Taken {
         session: held,
-        reply: reply,
+        reply,
     }
 }
 
 // The register dump, into a lent buffer.
-pub fn dump(chip: Chip, out: &mut [u8]) -> Dumped
+pub fn dump(chip: Chip, out: &mut [u8]) -> Result<usize, Refusal>
     ensures { (result ≡ dump_answer out.old) × (out.new ≡ dumped_into chip out.old) }
 {
     port::dump(&chip, out)

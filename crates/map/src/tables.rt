@@ -1,5 +1,5 @@
-// The register map: one entry for each of the 256 addresses in each of four tables, in rising order; and the fixed blocks, of two tables
-// with one entry for each of the commands F2h to FDh.
+// The register map: one entry for each of the 256 addresses in each of four tables, in rising order; and the fixed blocks, one for each of
+// the commands F2h to FDh.
 // What a register holds at power-on.
 pub const DEFAULTS: [u8; 256] = [
     0x00, // 00h XOR_TEST
@@ -521,6 +521,7 @@ pub const WRITABLE: [u8; 256] = [
 ];
 
 // 1 where 000 marks the register as locked by LOCK, else 0.
+// Stays: document 01 names four constant tables of 256 numbers, of default, writable bits, lock mark and home.
 pub const LOCK_MARKS: [u8; 256] = [
     1, // 00h XOR_TEST
     0, // 01h SMBUS_TEST
@@ -1040,34 +1041,18 @@ pub const HOMES: [u8; 256] = [
     0xFF, // FFh absent
 ];
 
-// The first register of a fixed block.
-pub const BLOCK_FIRSTS: [u8; 12] = [
-    0x40, // F2h FIXED_BLOCK_0
-    0x48, // F3h FIXED_BLOCK_1
-    0x50, // F4h FIXED_BLOCK_2
-    0x56, // F5h FIXED_BLOCK_3
-    0x67, // F6h FIXED_BLOCK_4
-    0x6E, // F7h FIXED_BLOCK_5
-    0x78, // F8h FIXED_BLOCK_6
-    0x90, // F9h FIXED_BLOCK_7
-    0xB4, // FAh FIXED_BLOCK_8
-    0xC8, // FBh FIXED_BLOCK_9
-    0xD0, // FCh FIXED_BLOCK_10
-    0xE5, // FDh FIXED_BLOCK_11
-];
-
-// How many registers it has.
-pub const BLOCK_COUNTS: [u8; 12] = [
-    8, // F2h FIXED_BLOCK_0
-    8, // F3h FIXED_BLOCK_1
-    6, // F4h FIXED_BLOCK_2
-    16, // F5h FIXED_BLOCK_3
-    4, // F6h FIXED_BLOCK_4
-    8, // F7h FIXED_BLOCK_5
-    12, // F8h FIXED_BLOCK_6
-    32, // F9h FIXED_BLOCK_7
-    8, // FAh FIXED_BLOCK_8
-    8, // FBh FIXED_BLOCK_9
-    16, // FCh FIXED_BLOCK_10
-    9, // FDh FIXED_BLOCK_11
+// The first register of a fixed block, and how many it has.
+pub const BLOCKS: [(u8, u8); 12] = [
+    (0x40, 8), // F2h FIXED_BLOCK_0
+    (0x48, 8), // F3h FIXED_BLOCK_1
+    (0x50, 6), // F4h FIXED_BLOCK_2
+    (0x56, 16), // F5h FIXED_BLOCK_3
+    (0x67, 4), // F6h FIXED_BLOCK_4
+    (0x6E, 8), // F7h FIXED_BLOCK_5
+    (0x78, 12), // F8h FIXED_BLOCK_6
+    (0x90, 32), // F9h FIXED_BLOCK_7
+    (0xB4, 8), // FAh FIXED_BLOCK_8
+    (0xC8, 8), // FBh FIXED_BLOCK_9
+    (0xD0, 16), // FCh FIXED_BLOCK_10
+    (0xE5, 9), // FDh FIXED_BLOCK_11
 ];

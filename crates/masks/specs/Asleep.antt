@@ -1,6 +1,7 @@
 -- The masked bits of the error status registers as the code puts them together, by the sleep state and its mask registers, and that they are
 -- those of the definitions. Assumes nothing.
-use Rattle.std.specs.Prelude.{◌≡◌, Bool, true, false, List, eqb, get_or}
+use Rattle.std.specs.Prelude.{◌≡◌, Option, Some, None, Bool, true, false, List, eqb, get_or}
+use Rattle.std.specs.Option.{option_map_or}
 use Rattle.std.proofs.Math.Path.{refl}
 use Rattle.std.proofs.Common.{◌∙◌, arith}
 use Prim.Native.Nat.{ℕ, zero, suc, ◌+◌, ◌*◌, ◌%◌, ◌^◌, ◌≤◌}
@@ -10,6 +11,7 @@ use Rattle.laws.specs.Count.{one_if}
 use Rattle.laws.specs.Pick.{pick}
 use Rattle.map.specs.Bits.{is_set}
 use Rattle.map.specs.Names.{S1_FAN_MASK, S3_FAN_MASK, S3_TEMPERATURE_VOLTAGE_MASK, S4_5_TEMPERATURE_VOLTAGE_MASK, TEMP_MSK}
+use Rattle.masks.specs.declared.SleepState.{SleepState}
 use Rattle.masks.specs.declared.SleepState.TheVariants.{S0, S1, S3, S4S5}
 use Rattle.masks.specs.Masks.{sleep_state, is_masked, asleep_volt, volt_masking, volt_masked, fan_masking, fan_masked, asleep_zone, zone_masking, zone_masked, zone_masks, volt_masks, fan_masks}
 
@@ -18,6 +20,16 @@ none_masked : (n : ℕ) → digits_from (λ k. false) n ≡ 0
 unfolding digits_from
 none_masked zero = refl
 none_masked (suc n) = rw (none_masked n)
+
+-- the mask register of voltages and temperatures, in S3 and in S4/5
+unfoldable pub mask_in : List ℕ → SleepState → Option ℕ
+mask_in file S0 = None
+mask_in file S1 = None
+mask_in file S3 = Some (get_or file S3_TEMPERATURE_VOLTAGE_MASK 0)
+mask_in file S4S5 = Some (get_or file S4_5_TEMPERATURE_VOLTAGE_MASK 0)
+
+unfoldable pub asleep_mask : List ℕ → Option ℕ
+asleep_mask file = mask_in file (sleep_state file)
 
 -- ---- voltages
 
@@ -62,6 +74,17 @@ module _ (file : List ℕ) (group : ℕ) where
   unfolding volt_masks volt_masked volt_masking
   volts_S4_s5 e = rw e (volts_asleep file S4_5_TEMPERATURE_VOLTAGE_MASK group)
 
+  -- by the mask register, if the state has one
+  pub volts_by_mask : volt_masks file group ≡ option_map_or (λ mask. asleep_volts mask group) (asleep_mask file) 0x00
+  unfolding asleep_mask mask_in
+  volts_by_mask = go (sleep_state file) refl
+    where
+      go : (s : SleepState) → sleep_state file ≡ s → volt_masks file group ≡ option_map_or (λ mask. asleep_volts mask group) (mask_in file s) 0x00
+      go S0 e = volts_S0 e
+      go S1 e = volts_S1 e
+      go S3 e = volts_S3 e
+      go S4S5 e = volts_S4_s5 e
+
 -- ---- fans
 
 -- the four lowest digits of a number make its remainder by 16
@@ -85,6 +108,8 @@ module _ (file : List ℕ) where
   pub fans_S4_s5 : sleep_state file ≡ S4S5 → fan_masks file ≡ 0x0F
   unfolding fan_masks fan_masked fan_masking is_masked digits_from
   fans_S4_s5 e = rw e
+
+pub ruleset fans_by_state = (fans_S0, fans_S1, fans_S3, fans_S4_s5)
 
 -- ---- zones
 
@@ -116,3 +141,14 @@ module _ (file : List ℕ) where
   pub zones_S4_s5 : sleep_state file ≡ S4S5 → zone_masks file ≡ asleep_zones (get_or file S4_5_TEMPERATURE_VOLTAGE_MASK 0)
   unfolding zone_masks zone_masked zone_masking
   zones_S4_s5 e = rw e (zones_asleep file S4_5_TEMPERATURE_VOLTAGE_MASK)
+
+  -- by the mask register, if the state has one
+  pub zones_by_mask : zone_masks file ≡ option_map_or asleep_zones (asleep_mask file) 0x00
+  unfolding asleep_mask mask_in
+  zones_by_mask = go (sleep_state file) refl
+    where
+      go : (s : SleepState) → sleep_state file ≡ s → zone_masks file ≡ option_map_or asleep_zones (mask_in file s) 0x00
+      go S0 e = zones_S0 e
+      go S1 e = zones_S1 e
+      go S3 e = zones_S3 e
+      go S4S5 e = zones_S4_s5 e

@@ -3,12 +3,12 @@
 
 ghost use Rattle.std.specs.Prelude.{◌≡◌};
 ghost use Rattle.masks.specs.Masks.{state_by, sleep_state, zone_masks, volt_masks, fan_masks};
-ghost use Rattle.masks.specs.Asleep.{asleep_volts, asleep_zones};
+ghost use Rattle.masks.specs.Asleep.{asleep_mask, asleep_volts, asleep_zones};
 
 use map::{bits, registers};
 
 // The sleep states of E4h.
-#[derive(Clone, Copy)]
+#[derive(Clone, Copy, PartialEq, Eq)]
 pub enum SleepState {
     S0,
     S1,
@@ -26,25 +26,41 @@ const ZONES_ONE_AND_TWO: u8 = 0x03;
 const ALL_FANS: u8 = 0x0F;
 
 // The sleep state that E4h holds.
-fn state_by(control: u8) -> SleepState
-    ensures { result ≡ state_by control }
-{
-    let state = control & bits::SB;
-    match state {
-        bits::S0 => SleepState::S0,
-        bits::S1 => SleepState::S1,
-        bits::S3 => SleepState::S3,
-        _ => SleepState::S4S5,
+impl From<u8> for SleepState {
+    ghost from_gives = { λ control state. state ≡ state_by control };
+
+    #[tactic(auto, unfolding(crate::specs::Masks::state_by))]
+    fn from(control: u8) -> SleepState {
+        match control & bits::SB {
+            bits::S0 => SleepState::S0,
+            bits::S1 => SleepState::S1,
+            bits::S3 => SleepState::S3,
+            _ => SleepState::S4S5,
+        }
     }
 }
 
+#[tactic(auto, unfolding(crate::specs::Masks::sleep_state))]
 fn sleep_state(file: &[u8; 256]) -> SleepState
     ensures { result ≡ sleep_state file.now }
 {
-    state_by(file[registers::SLEEP_STATE_CONTROL as usize])
+    SleepState::from(file[registers::SLEEP_STATE_CONTROL as usize])
 }
 
-// Of a group of eight channels, in S3 and S4/5, by the mask register of that state: its bits 0 to 2 are channels 12, 13 and 14.
+// The mask register of voltages and temperatures, in S3 and in S4/5; no other state has one.
+#[tactic(auto, unfolding(crate::specs::Asleep::asleep_mask, crate::specs::Asleep::mask_in))]
+fn asleep_mask(file: &[u8; 256]) -> Option<u8>
+    ensures { result ≡ asleep_mask file.now }
+{
+    match sleep_state(file) {
+        SleepState::S0 | SleepState::S1 => None,
+        SleepState::S3 => Some(file[registers::S3_TEMPERATURE_VOLTAGE_MASK as usize]),
+        SleepState::S4S5 => Some(file[registers::S4_5_TEMPERATURE_VOLTAGE_MASK as usize]),
+    }
+}
+
+// Of a group of eight channels, by that register: its bits 0 to 2 are channels 12, 13 and 14.
+#[tactic(auto, unfolding(crate::specs::Asleep::asleep_volts))]
 fn asleep_volts(mask: u8, group: u8) -> u8
     ensures { result ≡ asleep_volts mask group }
 {
@@ -56,24 +72,15 @@ fn asleep_volts(mask: u8, group: u8) -> u8
 }
 
 // The bits of 41h (group 0) or 42h (group 1) that are masked.
+#[tactic(auto, using(crate::specs::Asleep::volts_by_mask))]
 pub fn volt_masks(file: &[u8; 256], group: u8) -> u8
     ensures { result ≡ volt_masks file.now group }
 {
-    match sleep_state(file) {
-        SleepState::S0 => 0x00,
-        SleepState::S1 => 0x00,
-        SleepState::S3 => asleep_volts(
-            file[registers::S3_TEMPERATURE_VOLTAGE_MASK as usize],
-            group,
-        ),
-        SleepState::S4S5 => asleep_volts(
-            file[registers::S4_5_TEMPERATURE_VOLTAGE_MASK as usize],
-            group,
-        ),
-    }
+    asleep_mask(file).map_or(0x00, |mask| asleep_volts(mask, group))
 }
 
 // The bits of 47h that are masked.
+#[tactic(auto, using(crate::specs::Asleep::fans_by_state))]
 pub fn fan_masks(file: &[u8; 256]) -> u8
     ensures { result ≡ fan_masks file.now }
 {
@@ -85,24 +92,22 @@ pub fn fan_masks(file: &[u8; 256]) -> u8
     }
 }
 
-// Zones 1 and 2 in S3 and S4/5, by the mask register of that state.
+// Zones 1 and 2, by the mask register of the state.
+#[tactic(auto, unfolding(crate::specs::Asleep::asleep_zones))]
 fn asleep_zones(mask: u8) -> u8
     ensures { result ≡ asleep_zones mask }
 {
     if map::is_set(mask, bits::TEMP_MSK) {
-        return ZONES_ONE_AND_TWO;
+        ZONES_ONE_AND_TWO
+    } else {
+        0x00
     }
-    0x00
 }
 
 // The bits of 40h that are masked.
+#[tactic(auto, using(crate::specs::Asleep::zones_by_mask))]
 pub fn zone_masks(file: &[u8; 256]) -> u8
     ensures { result ≡ zone_masks file.now }
 {
-    match sleep_state(file) {
-        SleepState::S0 => 0x00,
-        SleepState::S1 => 0x00,
-        SleepState::S3 => asleep_zones(file[registers::S3_TEMPERATURE_VOLTAGE_MASK as usize]),
-        SleepState::S4S5 => asleep_zones(file[registers::S4_5_TEMPERATURE_VOLTAGE_MASK as usize]),
-    }
+    asleep_mask(file).map_or(0x00, asleep_zones)
 }

@@ -1,44 +1,45 @@
 -- What the code hands on: the same events, with numbers no larger than their types hold. No event can tell (law `clamped-taken`).
 -- Assumes nothing.
-use Rattle.std.specs.Prelude.{ℕ, ◌<◌, min, ◌≡◌, refl, ℤ, pos, negsuc}
+use Rattle.std.specs.Prelude.{ℕ, ◌<◌, min, ◌≡◌, refl, Option, None, Some, ℤ, pos, negsuc}
 use Rattle.std.proofs.Common.{arith}
 use Rattle.laws.specs.Pick.{pick}
-use Rattle.laws.specs.Both.{both_false}
 use Rattle.temperature.specs.declared.Stated.{Stated}
 use Rattle.temperature.specs.declared.Stated.TheVariants as stated
-use Rattle.state.specs.declared.Count.{Count}
-use Rattle.state.specs.declared.Count.TheVariants as count
 use Rattle.event.specs.declared.Event.{Event}
 use Rattle.event.specs.declared.Event.TheVariants.{Temperature, Voltage, Fan, Hot, Pin, Tick, Reset, Write, Read, ReadBlock, WriteBlock}
 use Rattle.event.specs.Event.{index_in, reading_within, stated_in, count_in, level_in, event_in}
-use Rattle.text.specs.Number.{saturated}
-use Rattle.parse.specs.declared.Parsed.{Parsed}
-use Rattle.parse.specs.declared.Parsed.TheVariants.{Wrong, Fine}
-use Rattle.parse.specs.declared.Pair.{Pair}
-use Rattle.parse.specs.declared.Pair.TheVariants as pair
-use Rattle.parse.specs.Unseen.{Unseen, same, held_unseen, within_unseen, one_unseen, both_unseen}
+use Rattle.text.specs.declared.Number.{Number}
+use Rattle.text.specs.declared.Number.TheVariants as number
+use Rattle.text.specs.Number.{top}
+use Rattle.parse.specs.Unseen.{Unseen, same, held_unseen, one_unseen, both_unseen}
 
-unfoldable pub saturated_pair : Pair → Pair
-saturated_pair pair.Wrong = pair.Wrong
-saturated_pair (pair.Of i v) = pair.Of (saturated i) (saturated v)
+-- a number that is spelled right, as `saturated` of `text` has it
+unfoldable pub held : Number → Number
+held number.Dash = number.Dash
+held (number.Plus v) = number.Plus (min v top)
+held (number.Minus v) = number.Minus (min v top)
 
-unfoldable pub clamped_index : ℕ → ℕ
+unfoldable pub saturated_pair : Option (Number × Number) → Option (Number × Number)
+saturated_pair None = None
+saturated_pair (Some (i, v)) = Some (held i, held v)
+
+abbrev pub clamped_index : ℕ → ℕ
 clamped_index n = min n 255
 
-unfoldable pub clamped_signed : ℤ → ℤ
+abbrev pub clamped_signed : ℤ → ℤ
 clamped_signed (pos n) = pos (min n 32767)
 clamped_signed (negsuc n) = negsuc (min n 32766)
 
-unfoldable pub clamped_stated : Stated → Stated
+abbrev pub clamped_stated : Stated → Stated
 clamped_stated stated.Missing = stated.Missing
 clamped_stated (stated.Halves h) = stated.Halves (clamped_signed h)
 clamped_stated (stated.Sixteenths n) = stated.Sixteenths (clamped_signed n)
 
-unfoldable pub clamped_count : Count → Count
-clamped_count count.Missing = count.Missing
-clamped_count (count.Taken n) = count.Taken (min n 65535)
+abbrev pub clamped_count : Option ℕ → Option ℕ
+clamped_count None = None
+clamped_count (Some n) = Some (min n 65535)
 
-unfoldable pub clamped_event : Event → Event
+abbrev pub clamped_event : Event → Event
 clamped_event (Temperature zone s) = Temperature (clamped_index zone) (clamped_stated s)
 clamped_event (Voltage channel n) = Voltage (clamped_index channel) (clamped_count n)
 clamped_event (Fan fan n) = Fan (clamped_index fan) (clamped_count n)
@@ -51,46 +52,41 @@ clamped_event (Read address a) = Read address a
 clamped_event (ReadBlock address command) = ReadBlock address command
 clamped_event (WriteBlock address command) = WriteBlock address command
 
-unfoldable pub clamped_parsed : Parsed → Parsed
-clamped_parsed Wrong = Wrong
-clamped_parsed (Fine e) = Fine (clamped_event e)
+abbrev pub clamped_parsed : Option Event → Option Event
+clamped_parsed None = None
+clamped_parsed (Some e) = Some (clamped_event e)
 
 -- ---- no range can tell
 
 index_unseen : (n most : ℕ) → most < 255 → Unseen (index_in most) (clamped_index n) n
-unfolding clamped_index index_in
-index_unseen n most h =
-    within_unseen (index_in most) (λ (k : ℕ). k) (λ k e. rw (e, both_false)) (held_unseen n 255 most h)
+unfolding index_in
+index_unseen n most h = grind (arith, held_unseen n 255 most h)
 
 -- a signed number, of a range that begins below 0
 signed_unseen : (n : ℤ) (least most : ℕ) → least < 32766 → most < 32767 → Unseen (reading_within (negsuc least) (pos most)) (clamped_signed n) n
-unfolding clamped_signed reading_within
-signed_unseen (pos n) least most h k =
-    within_unseen (reading_within (negsuc least) (pos most)) pos (λ m e. e) (held_unseen n 32767 most k)
-signed_unseen (negsuc n) least most h k =
-    within_unseen (reading_within (negsuc least) (pos most)) negsuc (λ m e. rw e) (held_unseen n 32766 least h)
+unfolding reading_within
+signed_unseen (pos n) least most h k = grind (arith, held_unseen n 32767 most k)
+signed_unseen (negsuc n) least most h k = grind (arith, held_unseen n 32766 least h)
 
 stated_unseen : (s : Stated) → Unseen stated_in (clamped_stated s) s
-unfolding clamped_stated stated_in
+unfolding stated_in
 stated_unseen stated.Missing = same refl
-stated_unseen (stated.Halves h) =
-    within_unseen stated_in stated.Halves (λ k e. e) (signed_unseen h 253 255 (omega arith) (omega arith))
-stated_unseen (stated.Sixteenths n) =
-    within_unseen stated_in stated.Sixteenths (λ k e. e) (signed_unseen n 2031 2040 (omega arith) (omega arith))
+stated_unseen (stated.Halves h) = grind (arith, signed_unseen h 253 255)
+stated_unseen (stated.Sixteenths n) = grind (arith, signed_unseen n 2031 2040)
 
-count_unseen : (n : Count) (most : ℕ) → most < 65535 → Unseen (count_in most) (clamped_count n) n
-unfolding clamped_count count_in
-count_unseen count.Missing most h = same refl
-count_unseen (count.Taken n) most h = within_unseen (count_in most) count.Taken (λ k e. e) (held_unseen n 65535 most h)
+count_unseen : (n : Option ℕ) (most : ℕ) → most < 65535 → Unseen (count_in most) (clamped_count n) n
+unfolding count_in
+count_unseen None most h = same refl
+count_unseen (Some n) most h = grind (arith, held_unseen n 65535 most h)
 
-level_unseen : (n : Count) (most : ℕ) → most < 65535 → Unseen (level_in most) (clamped_count n) n
-unfolding clamped_count level_in
-level_unseen count.Missing most h = same refl
-level_unseen (count.Taken n) most h = within_unseen (level_in most) count.Taken (λ k e. e) (held_unseen n 65535 most h)
+level_unseen : (n : Option ℕ) (most : ℕ) → most < 65535 → Unseen (level_in most) (clamped_count n) n
+unfolding level_in
+level_unseen None most h = same refl
+level_unseen (Some n) most h = grind (arith, held_unseen n 65535 most h)
 
 -- no event can tell: what is made of it where its numbers are in range, and only there, is the same
 pub clamped_taken : {A : Type 0} (made : Event → A) (refused : A) (e : Event) → pick (event_in (clamped_event e)) (made (clamped_event e)) refused ≡ pick (event_in e) (made e) refused
-unfolding clamped_event event_in
+unfolding event_in
 clamped_taken made refused (Temperature zone s) =
     both_unseen (λ i x. made (Temperature i x)) refused (index_unseen zone 5 (omega arith)) (stated_unseen s)
 clamped_taken made refused (Voltage channel n) =

@@ -1,61 +1,36 @@
-// A line of text as an event (document 01, "Lines and refusals"; document 02, Q-1 and Q-7). The ranges of its numbers are the event's own business.
+// A line of text as an event (document 01, "Lines and refusals"; document 02, Q-1 and Q-7). The ranges of its numbers are the event's own
+// business.
 #![tactic(auto)]
 
-ghost use Rattle.std.specs.Prelude.{◌≡◌, ◌++◌, ◌≤◌, min, pos, neg_ℤ, length, drop};
+ghost use Rattle.std.specs.Prelude.{◌≡◌, ◌++◌, MatchOption, None, Some, min, eqb, pos, length, drop};
+ghost use Rattle.laws.specs.Pick.{pick};
+ghost use Rattle.text.specs.Fields.{first_field, fields_of, field_at};
 ghost use Rattle.text.specs.Number.{saturated};
-ghost use Rattle.parse.specs.Parse.{number_at, letter_of, index_of, spelled_stated, count_of, pair_of, pin_line, alone_line, two_by, two_of, three_by, three_of, write_line, read_line, read_block_line, is_data, write_block_line, event_by, event_of, data_by, data_of};
+ghost use Rattle.text.specs.Hex.{hex_byte_of};
+ghost use Rattle.parse.specs.Parse.{letter_of, number_at, index_of, spelled_stated, count_of, pair_of, pin_line, alone_line, two_of, three_of, write_line, read_line, read_block_line, is_data, write_block_line, event_of, data_of};
 ghost use Rattle.parse.specs.Clamped.{saturated_pair, clamped_index, clamped_stated, clamped_count, clamped_parsed};
-ghost use Rattle.parse.specs.Pairs.{both_of, pair_line, counted_by};
+ghost use Rattle.parse.specs.Pairs.{pair_line, counted_by};
+ghost use Rattle.parse.specs.Walked.{Behind};
 
 use event::{BLOCK_MOST, Event};
-use state::Count;
 use temperature::Stated;
-use text::{Hex, Number};
+use text::Number;
 
 const TAB: u8 = 9;
 
 // The first field of a P line's data.
 const DATA: usize = 4;
 
-// What a line says: nothing that is spelled right, or an event.
-#[derive(Clone, Copy)]
-pub enum Parsed {
-    Wrong,
-    Fine(Event),
-}
-
-// An index and a value, both spelled right.
-#[derive(Clone, Copy)]
-pub enum Pair {
-    Wrong,
-    Of(Number, Number),
-}
-
-// Two bus fields, both spelled right.
-#[derive(Clone, Copy)]
-pub enum Two {
-    Wrong,
-    Of(u8, u8),
-}
-
-// Three.
-#[derive(Clone, Copy)]
-pub enum Three {
-    Wrong,
-    Of(u8, u8, u8),
-}
-
 // ---- numbers
 
 // An index; what is no number from 1 on counts as 0, and all from 255 on as 255: no range holds either.
+#[tactic(auto, unfolding(crate::specs::Parse::index_of))]
 fn index_of(n: Number) -> u8
     ensures { result ≡ clamped_index (index_of n) }
 {
     match n {
-        Number::Wrong => 0,
-        Number::Dash => 0,
-        Number::Plus(v) => { if v < 255 { v as u8 } else { 255 } }
-        Number::Minus(_) => 0,
+        Number::Plus(v) => u8::try_from(v).unwrap_or(255),
+        Number::Dash | Number::Minus(_) => 0,
     }
 }
 
@@ -63,16 +38,11 @@ fn index_of(n: Number) -> u8
 fn above(v: u16) -> i16
     ensures { result ≡ pos (min v 32767) }
 {
-    if v < 32767 { v as i16 } else { 32767 }
-}
-
-fn below(v: u16) -> i16
-    ensures { result ≡ neg_ℤ (pos (min v 32767)) }
-{
-    0 - above(v)
+    i16::try_from(v).unwrap_or(i16::MAX)
 }
 
 // A temperature in the unit of its letter: of T half degrees, of U sixteenths.
+#[tactic(auto, unfolding(crate::specs::Pairs::counted_by))]
 fn counted_by(letter: u8, n: i16) -> Stated
     ensures { result ≡ counted_by letter n }
 {
@@ -83,272 +53,211 @@ fn counted_by(letter: u8, n: i16) -> Stated
     }
 }
 
+#[tactic(auto, unfolding(crate::specs::Parse::spelled_stated, crate::specs::Pairs::counted_by))]
 fn spelled_stated(letter: u8, n: Number) -> Stated
     ensures { result ≡ clamped_stated (spelled_stated (counted_by letter) n) }
 {
     match n {
-        Number::Wrong => Stated::Missing,
         Number::Dash => Stated::Missing,
         Number::Plus(v) => counted_by(letter, above(v)),
-        Number::Minus(v) => counted_by(letter, below(v)),
+        Number::Minus(v) => counted_by(letter, -above(v)),
     }
 }
 
 // A count; one below 0 counts as 65535, which no range holds.
-fn count_of(n: Number) -> Count
+#[tactic(auto, unfolding(crate::specs::Parse::count_of))]
+fn count_of(n: Number) -> Option<u16>
     ensures { result ≡ clamped_count (count_of n) }
 {
     match n {
-        Number::Wrong => Count::Missing,
-        Number::Dash => Count::Missing,
-        Number::Plus(v) => Count::Taken(v),
-        Number::Minus(_) => Count::Taken(65535),
+        Number::Dash => None,
+        Number::Plus(v) => Some(v),
+        Number::Minus(_) => Some(u16::MAX),
     }
 }
 
-// ---- lines
+// ---- fields
+
+// Nothing of a line that has not n fields.
+fn of_fields(line: &[u8], n: usize) -> Option<()>
+    ensures { result ≡ pick (eqb (length (fields_of line.now)) n) (Some tt) None }
+{
+    (text::count_fields(line) == n).then_some(())
+}
 
 // The number in field k.
-fn number_at(line: &[u8], k: usize) -> Number
+#[tactic(auto, unfolding(crate::specs::Parse::number_at))]
+fn number_at(line: &[u8], k: usize) -> Option<Number>
     ensures { result ≡ saturated (number_at line.now k) }
 {
     text::decimal(text::field(line, k))
 }
 
-// An index and a value, where both are spelled right.
-fn both(i: Number, v: Number) -> Pair
-    ensures { result ≡ both_of i v }
+// The byte in field k.
+fn hex_at(line: &[u8], k: usize) -> Option<u8>
+    ensures { result ≡ hex_byte_of (field_at line.now k) }
 {
-    if text::is_spelt(i) {
-        if text::is_spelt(v) {
-            return Pair::Of(i, v);
-        }
-    }
-    Pair::Wrong
+    text::hex_byte(text::field(line, k))
 }
 
-fn pair_of(line: &[u8]) -> Pair
+// The first field, and what stands behind its tab; nothing where there is no tab.
+#[tactic(auto, using(text::specs::Walk::first_take, crate::specs::Walked::behind))]
+fn parted(s: &[u8]) -> Option<(&[u8], &[u8])>
+    ensures { MatchOption result (length (first_field s.now) ≡ length s.now) (λ p. (p.0.now ≡ first_field s.now) × Behind s.now p.1.now) }
+{
+    let width = text::width(s);
+    if width == s.len() {
+        return None;
+    }
+    Some((&s[..width], &s[width + 1..]))
+}
+
+// ---- lines of decimal fields
+
+// An index and a value, both spelled right. A further tab in the value makes it a wrong decimal.
+fn pair_of(line: &[u8]) -> Option<(Number, Number)>
     ensures { result ≡ saturated_pair (pair_of line.now) }
 {
-    let first = text::width(line);
-    if first == line.len() {
-        return Pair::Wrong;
-    }
-    let rest = &line[first + 1..];
-    let second = text::width(rest);
-    if second == rest.len() {
-        return Pair::Wrong;
-    }
-    // A further tab in it makes it a wrong decimal.
-    let last = &rest[second + 1..];
-    both(text::decimal(&rest[..second]), text::decimal(last))
+    let (_, rest) = parted(line)?;
+    let (index, value) = parted(rest)?;
+    text::decimal(index).zip(text::decimal(value))
 }
 
 // The event of a letter that has an index and a value behind it.
-fn pair_event(letter: u8, i: Number, v: Number) -> Parsed
-    ensures { result ≡ clamped_parsed (pair_line letter (Pair.Of i v)) }
+#[tactic(auto, using(crate::specs::Held::pair_read, crate::specs::Pairs::pair_temperature), unfolding(crate::specs::Pairs::pair_line))]
+fn pair_line(letter: u8, line: &[u8]) -> Option<Event>
+    ensures { result ≡ clamped_parsed (pair_line letter (pair_of line.now)) }
 {
+    let (i, v) = pair_of(line)?;
     let index = index_of(i);
     match letter {
-        b'F' => Parsed::Fine(Event::Fan {
+        b'F' => Some(Event::Fan {
             fan: index,
             count: count_of(v),
         }),
-        b'H' => Parsed::Fine(Event::Hot {
+        b'H' => Some(Event::Hot {
             input: index,
             level: count_of(v),
         }),
-        b'T' | b'U' => Parsed::Fine(Event::Temperature {
+        b'T' | b'U' => Some(Event::Temperature {
             zone: index,
             stated: spelled_stated(letter, v),
         }),
-        b'V' => Parsed::Fine(Event::Voltage {
+        b'V' => Some(Event::Voltage {
             channel: index,
             count: count_of(v),
         }),
-        _ => Parsed::Wrong,
+        _ => None,
     }
 }
 
-fn pair_line(letter: u8, line: &[u8]) -> Parsed
-    ensures { result ≡ clamped_parsed (pair_line letter (pair_of line.now)) }
-{
-    match pair_of(line) {
-        Pair::Wrong => Parsed::Wrong,
-        Pair::Of(i, v) => pair_event(letter, i, v),
-    }
-}
-
-fn pin_line(line: &[u8]) -> Parsed
+#[tactic(auto, using(crate::specs::Held::pin_read), unfolding(crate::specs::Parse::pin_line))]
+fn pin_line(line: &[u8]) -> Option<Event>
     ensures { result ≡ clamped_parsed (pin_line line.now) }
 {
-    if text::count_fields(line) != 2 {
-        return Parsed::Wrong;
-    }
-    let v = number_at(line, 1);
-    if text::is_spelt(v) {
-        return Parsed::Fine(Event::Pin { level: count_of(v) });
-    }
-    Parsed::Wrong
+    of_fields(line, 2)?;
+    let level = number_at(line, 1)?;
+    Some(Event::Pin {
+        level: count_of(level),
+    })
 }
 
 // A line that is a letter alone.
-fn alone_line(line: &[u8], event: Event) -> Parsed
+#[tactic(auto, unfolding(crate::specs::Parse::alone_line))]
+fn alone_line(line: &[u8], event: Event) -> Option<Event>
     ensures { result ≡ alone_line event line.now }
 {
-    if text::count_fields(line) != 1 {
-        return Parsed::Wrong;
-    }
-    Parsed::Fine(event)
+    of_fields(line, 1)?;
+    Some(event)
 }
 
-// ---- bus fields
+// ---- lines of bus fields
 
-fn two_by(first: Hex, second: Hex) -> Two
-    ensures { result ≡ two_by first second }
+// The two of a line that has no more.
+#[tactic(auto, unfolding(crate::specs::Parse::two_of))]
+fn two_alone(line: &[u8]) -> Option<(u8, u8)>
+    ensures { result ≡ pick (eqb (length (fields_of line.now)) 3) (two_of line.now) None }
 {
-    let Hex::Byte(a) = first else {
-        return Two::Wrong;
-    };
-    let Hex::Byte(b) = second else {
-        return Two::Wrong;
-    };
-    Two::Of(a, b)
+    of_fields(line, 3)?;
+    Some((hex_at(line, 1)?, hex_at(line, 2)?))
 }
 
-fn two_of(line: &[u8]) -> Two
-    ensures { result ≡ two_of line.now }
-{
-    two_by(
-        text::hex_byte(text::field(line, 1)),
-        text::hex_byte(text::field(line, 2)),
-    )
-}
-
-fn three_by(two: Two, third: Hex) -> Three
-    ensures { result ≡ three_by two third }
-{
-    let Two::Of(a, b) = two else {
-        return Three::Wrong;
-    };
-    let Hex::Byte(c) = third else {
-        return Three::Wrong;
-    };
-    Three::Of(a, b, c)
-}
-
-fn three_of(line: &[u8]) -> Three
+#[tactic(auto, unfolding(crate::specs::Parse::three_of, crate::specs::Parse::two_of))]
+fn three_of(line: &[u8]) -> Option<(u8, u8, u8)>
     ensures { result ≡ three_of line.now }
 {
-    three_by(two_of(line), text::hex_byte(text::field(line, 3)))
+    Some((hex_at(line, 1)?, hex_at(line, 2)?, hex_at(line, 3)?))
 }
 
-fn write_line(line: &[u8]) -> Parsed
-    ensures { result ≡ write_line line.now }
-{
-    if text::count_fields(line) != 4 {
-        return Parsed::Wrong;
-    }
-    match three_of(line) {
-        Three::Wrong => Parsed::Wrong,
-        Three::Of(a, r, b) => Parsed::Fine(Event::Write {
-            address: a,
-            register: r,
-            byte: b,
-        }),
-    }
-}
-
-fn read_line(line: &[u8]) -> Parsed
+#[tactic(auto, unfolding(crate::specs::Parse::read_line))]
+fn read_line(line: &[u8]) -> Option<Event>
     ensures { result ≡ read_line line.now }
 {
-    if text::count_fields(line) != 3 {
-        return Parsed::Wrong;
-    }
-    match two_of(line) {
-        Two::Wrong => Parsed::Wrong,
-        Two::Of(a, r) => Parsed::Fine(Event::Read {
-            address: a,
-            register: r,
-        }),
-    }
+    let (address, register) = two_alone(line)?;
+    Some(Event::Read { address, register })
 }
 
-fn read_block_line(line: &[u8]) -> Parsed
+#[tactic(auto, unfolding(crate::specs::Parse::read_block_line))]
+fn read_block_line(line: &[u8]) -> Option<Event>
     ensures { result ≡ read_block_line line.now }
 {
-    if text::count_fields(line) != 3 {
-        return Parsed::Wrong;
-    }
-    match two_of(line) {
-        Two::Wrong => Parsed::Wrong,
-        Two::Of(a, command) => Parsed::Fine(Event::ReadBlock {
-            address: a,
-            command: command,
-        }),
-    }
+    let (address, command) = two_alone(line)?;
+    Some(Event::ReadBlock { address, command })
+}
+
+#[tactic(auto, unfolding(crate::specs::Parse::write_line))]
+fn write_line(line: &[u8]) -> Option<Event>
+    ensures { result ≡ write_line line.now }
+{
+    of_fields(line, 4)?;
+    let (address, register, byte) = three_of(line)?;
+    Some(Event::Write {
+        address,
+        register,
+        byte,
+    })
 }
 
 // Whether a line has as many bytes behind its count as that says, all spelled right.
+#[tactic(auto, unfolding(crate::specs::Parse::is_data))]
 fn is_data(n: u8, line: &[u8]) -> bool
     ensures { result ≡ is_data n line.now }
 {
-    let count = n as usize;
-    if BLOCK_MOST < count {
-        return false;
-    }
-    if text::count_fields(line) != DATA + count {
-        return false;
-    }
-    let mut bytes = [0u8; BLOCK_MOST];
-    text::hex_fields(line, DATA, &mut bytes[..count])
+    let count = usize::from(n);
+    count <= BLOCK_MOST
+        && text::count_fields(line) == DATA + count
+        && text::hex_fields(line, DATA, &mut [0; BLOCK_MOST][..count])
 }
 
-fn write_block_line(line: &[u8]) -> Parsed
+#[tactic(auto, unfolding(crate::specs::Parse::write_block_line))]
+fn write_block_line(line: &[u8]) -> Option<Event>
     ensures { result ≡ write_block_line line.now }
 {
-    match three_of(line) {
-        Three::Wrong => Parsed::Wrong,
-        Three::Of(a, command, n) => {
-            if is_data(n, line) {
-                Parsed::Fine(Event::WriteBlock {
-                    address: a,
-                    command: command,
-                })
-            } else {
-                Parsed::Wrong
-            }
-        }
-    }
+    let (address, command, n) = three_of(line)?;
+    is_data(n, line).then_some(Event::WriteBlock { address, command })
 }
 
 // ---- the event
 
 // The letter of a line; 0, which is none, where its first field is not one byte.
+// Stays: 0 is none in the definition too, and all who ask compare it with letters: an Option would be one case more at each of them.
+#[tactic(auto, using(crate::specs::Walked::letter_walked))]
 pub fn letter_of(line: &[u8]) -> u8
     ensures { result ≡ letter_of line.now }
 {
-    if line.len() == 0 {
-        return 0;
+    match line {
+        [TAB, ..] => 0,
+        [letter] | [letter, TAB, ..] => *letter,
+        _ => 0,
     }
-    let first = line[0];
-    if first == TAB {
-        return 0;
-    }
-    if line.len() == 1 {
-        return first;
-    }
-    if line[1] == TAB {
-        return first;
-    }
-    0
 }
 
-// The event that a line says by this letter.
-fn event_by(letter: u8, line: &[u8]) -> Parsed
-    ensures { result ≡ clamped_parsed (event_by letter line.now) }
+// The event that a line says.
+#[tactic(auto, using(crate::proofs::Letters::by_letter), unfolding(crate::specs::Parse::event_by))]
+pub fn event_of(line: &[u8]) -> Option<Event>
+    ensures { result ≡ clamped_parsed (event_of line.now) }
 {
-    match letter {
+    match letter_of(line) {
         b'A' => pin_line(line),
         b'G' => read_block_line(line),
         b'K' => alone_line(line, Event::Tick),
@@ -356,52 +265,25 @@ fn event_by(letter: u8, line: &[u8]) -> Parsed
         b'R' => read_line(line),
         b'W' => write_line(line),
         b'X' => alone_line(line, Event::Reset),
-        _ => pair_line(letter, line),
+        letter => pair_line(letter, line),
     }
-}
-
-// The event that a line says.
-pub fn event_of(line: &[u8]) -> Parsed
-    ensures { result ≡ clamped_parsed (event_of line.now) }
-{
-    event_by(letter_of(line), line)
 }
 
 // ---- the bytes beside the event
 
-// A count, up to the longest block.
-fn block_count(n: u8) -> usize
-    ensures { result ≡ min n 32 }
-{
-    let count = n as usize;
-    if count < BLOCK_MOST {
-        count
-    } else {
-        BLOCK_MOST
-    }
-}
-
-// The bytes of data of a line that begins with P.
-fn block_data(line: &[u8], bytes: &mut [u8]) -> usize
-    requires { 32 ≤ length bytes.old }
-    ensures { (result ≡ length (data_by (three_of line.now) line.now)) × (bytes.new ≡ data_by (three_of line.now) line.now ++ drop (length (data_by (three_of line.now) line.now)) bytes.old) }
-{
-    let Three::Of(_, _, n) = three_of(line) else {
-        return 0;
-    };
-    let count = block_count(n);
-    text::hex_fields(line, DATA, &mut bytes[..count]);
-    count
-}
-
 // The bytes of data that a P line carries, at the start of the lent buffer, and how many; none of any other line.
+// Stays: a count beside the buffer, since the promise is about all its bytes: no clause can name those behind a slice lent from it.
+#[tactic(auto, using(crate::specs::Data::data_count), unfolding(crate::specs::Parse::data_of))]
 pub fn data_of(line: &[u8], bytes: &mut [u8; BLOCK_MOST]) -> usize
     ensures { (result ≡ length (data_of line.now)) × (bytes.new ≡ data_of line.now ++ drop (length (data_of line.now)) bytes.old) }
 {
-    if line.len() > 0 {
-        if line[0] == b'P' {
-            return block_data(line, bytes);
-        }
-    }
-    0
+    let [b'P', ..] = line else {
+        return 0;
+    };
+    let Some((_, _, n)) = three_of(line) else {
+        return 0;
+    };
+    let count = usize::from(n).min(BLOCK_MOST);
+    text::hex_fields(line, DATA, &mut bytes[..count]);
+    count
 }

@@ -3,18 +3,20 @@
 
 ghost use Rattle.port.specs.Port.{PowersOn, TakesEvent, TakesLine, Dumps, ShowsBlock};
 
-use bus::Dumped;
 use event::{Answer, Event};
-use line::{Reply, Session};
-use state::{Chip, Setup};
+use line::Session;
+use state::{Chip, Refusal, Setup};
 
-// The chip at power-on from a setup, and 0; or the setup's refusal, and the chip as it was.
-pub fn power_on(chip: &mut Chip, setup: Setup) -> u8
+// The chip at power-on from a setup; or the setup's refusal, and the chip as it was.
+pub fn power_on(chip: &mut Chip, setup: Setup) -> Result<(), Refusal>
     ensures { PowersOn chip.old setup result chip.new }
 {
     let done = state::power_again(*chip, setup);
     *chip = done.chip;
-    done.refusal
+    match done.refusal {
+        None => Ok(()),
+        Some(refusal) => Err(refusal),
+    }
 }
 
 // One event, with the bytes beside it.
@@ -27,7 +29,7 @@ pub fn take_event(chip: &mut Chip, event: Event, bytes: &[u8]) -> Answer
 }
 
 // One line, with a lent output for its answer.
-pub fn take_line(session: &mut Session, line: &[u8], out: &mut [u8]) -> Reply
+pub fn take_line(session: &mut Session, line: &[u8], out: &mut [u8]) -> Result<usize, Refusal>
     ensures { TakesLine session.old line.now out.old result session.new out.new }
 {
     let done = line::take_line(*session, line, out);
@@ -36,7 +38,7 @@ pub fn take_line(session: &mut Session, line: &[u8], out: &mut [u8]) -> Reply
 }
 
 // The register dump of a chip that is only looked at, into a lent buffer.
-pub fn dump(chip: &Chip, out: &mut [u8]) -> Dumped
+pub fn dump(chip: &Chip, out: &mut [u8]) -> Result<usize, Refusal>
     ensures { Dumps chip.now out.old result out.new }
 {
     event::dump(*chip, out)

@@ -3,7 +3,7 @@
 // It prints the case, the new step and how many thresholds the search compared. A line that begins with # is a title, and printed.
 #![tactic(auto)]
 
-ghost use Rattle.std.specs.Prelude.{◌<◌, ◌≤◌, IfOk, length};
+ghost use Rattle.std.specs.Prelude.{◌<◌};
 
 use std::io;
 use std::io::Read;
@@ -12,311 +12,180 @@ use text::Number;
 
 const INPUT_MOST: usize = 32768;
 
-// One byte more tells that there is more.
-const INPUT: usize = INPUT_MOST + 1;
-
 // The fields of a table's line: base, how many sixteenths a count is, and the offsets.
-const BASE: usize = 0;
-
-const UNIT: usize = 1;
-
-const OFFSETS: usize = 2;
-
 const TABLE_FIELDS: usize = 14;
 
 // The fields of a case.
-const OLD: usize = 0;
-
-const READING: usize = 1;
-
-const HYSTERESIS: usize = 2;
-
 const CASE_FIELDS: usize = 3;
 
-// The refusals, numbered as document 01 does.
-const OUT_OF_RANGE: u8 = 2;
+// The refusals, with the numbers of document 01.
+#[derive(Drop)]
+enum Refusal {
+    OutOfRange,
+    Spelling,
+}
 
-const SPELLING: u8 = 4;
+impl From<Refusal> for u8 {
+    fn from(refusal: Refusal) -> u8 {
+        match refusal {
+            Refusal::OutOfRange => 2,
+            Refusal::Spelling => 4,
+        }
+    }
+}
 
-#[derive(Clone, Copy)]
+#[derive(Drop)]
 struct Table {
     base: i8,
     unit: u8,
     offsets: [u8; 12],
 }
 
-// A number as what it stands for, or out of range.
 #[derive(Drop)]
-enum Byte {
-    Outside,
-    Of(u8),
+struct Case {
+    old: u8,
+    reading: Reading,
+    hysteresis: u8,
 }
 
+// What a line says.
 #[derive(Drop)]
-enum Degrees {
-    Outside,
-    Of(i8),
-}
-
-#[derive(Drop)]
-enum Given {
-    Outside,
-    Of(Reading),
-}
-
-// Twelve offsets, and whether all of them are in range.
-#[derive(Drop)]
-struct Offsets {
-    within: bool,
-    offsets: [u8; 12],
+enum Said {
+    Table(Table),
+    Case(Case),
 }
 
 // ---- numbers
 
-fn number_at(line: &[u8], k: usize) -> Number {
-    text::decimal(text::field(line, k))
-}
-
-fn all_spelt(line: &[u8], n: usize) -> bool {
-    let mut k: usize = 0;
-    while k < n {
-        if text::is_spelt(number_at(line, k)) {
-            k += 1;
-        } else {
-            return false;
-        }
+// The numbers of a line, all of which have to be spelled right.
+fn numbers<const N: usize>(line: &[u8]) -> Result<[Number; N], Refusal> {
+    let mut numbers = [Number::Dash; N];
+    for (k, number) in numbers.iter_mut().enumerate() {
+        *number = text::decimal(text::field(line, k)).ok_or(Refusal::Spelling)?;
     }
-    true
+    Ok(numbers)
 }
 
-fn byte_at(line: &[u8], k: usize) -> Byte {
-    match number_at(line, k) {
-        Number::Wrong => Byte::Outside,
-        Number::Dash => Byte::Outside,
-        Number::Plus(v) => {
-            if v < 256 {
-                Byte::Of(v as u8)
-            } else {
-                Byte::Outside
-            }
-        }
-        Number::Minus(_) => Byte::Outside,
+fn byte(number: Number) -> Result<u8, Refusal> {
+    match number {
+        Number::Plus(v) => u8::try_from(v).map_err(|_| Refusal::OutOfRange),
+        Number::Dash | Number::Minus(_) => Err(Refusal::OutOfRange),
     }
 }
 
-fn minus_byte(v: u16) -> i8
-    requires { v < 128 }
+// A number from -most to most.
+fn signed(number: Number, most: u16) -> Result<i16, Refusal>
+    requires { most < 32768 }
 {
-    0 - v as i8
-}
-
-fn minus_word(v: u16) -> i16
-    requires { v < 32768 }
-{
-    0 - v as i16
-}
-
-fn degrees_at(line: &[u8], k: usize) -> Degrees {
-    match number_at(line, k) {
-        Number::Wrong => Degrees::Outside,
-        Number::Dash => Degrees::Outside,
-        Number::Plus(v) => {
-            if v < 128 {
-                Degrees::Of(v as i8)
-            } else {
-                Degrees::Outside
-            }
-        }
-        Number::Minus(v) => {
-            if v < 128 {
-                Degrees::Of(minus_byte(v))
-            } else {
-                Degrees::Outside
-            }
-        }
+    match number {
+        Number::Plus(v) if v <= most => Ok(v as i16),
+        Number::Minus(v) if v <= most => Ok(-(v as i16)),
+        _ => Err(Refusal::OutOfRange),
     }
 }
 
-fn reading_at(line: &[u8], k: usize) -> Given {
-    match number_at(line, k) {
-        Number::Wrong => Given::Outside,
-        Number::Dash => Given::Of(Reading::Missing),
-        Number::Plus(v) => {
-            if v < 32768 {
-                Given::Of(Reading::Taken(v as i16))
-            } else {
-                Given::Outside
-            }
-        }
-        Number::Minus(v) => {
-            if v < 32768 {
-                Given::Of(Reading::Taken(minus_word(v)))
-            } else {
-                Given::Outside
-            }
-        }
-    }
+fn degrees(number: Number) -> Result<i8, Refusal> {
+    i8::try_from(signed(number, 127)?).map_err(|_| Refusal::OutOfRange)
 }
 
-fn offsets_of(line: &[u8]) -> Offsets {
-    let mut offsets = [0u8; 12];
-    let mut k: usize = 0;
-    while k < 12 {
-        let Byte::Of(offset) = byte_at(line, OFFSETS + k) else {
-            return Offsets {
-                within: false,
-                offsets: offsets,
-            };
-        };
-        offsets[k] = offset;
-        k += 1;
-    }
-    Offsets {
-        within: true,
-        offsets: offsets,
-    }
+fn reading(number: Number) -> Result<Reading, Refusal> {
+    let Number::Dash = number else {
+        return Ok(Reading::Taken(signed(number, 32767)?));
+    };
+    Ok(Reading::Missing)
 }
 
 // ---- lines
 
-fn print(rt: &impl Print, bytes: &[u8]) -> io::Result<()> {
-    rt.write_all(bytes)
+fn table_of(numbers: &[Number; TABLE_FIELDS]) -> Result<Table, Refusal> {
+    let mut offsets = [0u8; 12];
+    for (offset, number) in offsets.iter_mut().zip(&numbers[2..]) {
+        *offset = byte(*number)?;
+    }
+    Ok(Table {
+        base: degrees(numbers[0])?,
+        unit: byte(numbers[1])?,
+        offsets,
+    })
 }
 
-// One column more.
-fn column(rt: &impl Print, n: u64) -> io::Result<()> {
-    print(rt, b"\t")?;
-    rt.print(n)
+fn case_of(numbers: &[Number; CASE_FIELDS]) -> Result<Case, Refusal> {
+    let [old, n, hysteresis] = numbers;
+    Ok(Case {
+        old: byte(*old)?,
+        reading: reading(*n)?,
+        hysteresis: byte(*hysteresis)?,
+    })
 }
 
-fn refuse(rt: &impl Print, number: u64, refusal: u8) -> io::Result<()> {
-    print(rt, b"E")?;
-    column(rt, number)?;
-    column(rt, refusal as u64)?;
-    print(rt, b"\n")
+fn read_line(line: &[u8]) -> Result<Said, Refusal> {
+    match text::count_fields(line) {
+        TABLE_FIELDS => Ok(Said::Table(table_of(&numbers(line)?)?)),
+        CASE_FIELDS => Ok(Said::Case(case_of(&numbers(line)?)?)),
+        _ => Err(Refusal::Spelling),
+    }
 }
 
 // Table 1 without a setup.
 fn first_table() -> Table {
     let setup = state::default_setup();
-    let offsets = setup.offsets12;
     Table {
         base: setup.bases[0],
         unit: DEGREE as u8,
-        offsets: offsets,
+        offsets: setup.offsets12,
     }
 }
 
-// The table that a line gives, or the old one where the line is refused.
-fn take_table(rt: &impl Print, old: Table, line: &[u8], number: u64) -> io::Result<Table> {
-    let Degrees::Of(base) = degrees_at(line, BASE) else {
-        refuse(rt, number, OUT_OF_RANGE)?;
-        return Ok(old);
-    };
-    let Byte::Of(unit) = byte_at(line, UNIT) else {
-        refuse(rt, number, OUT_OF_RANGE)?;
-        return Ok(old);
-    };
-    let given = offsets_of(line);
-    if given.within {
-        let offsets = given.offsets;
-        return Ok(Table {
-            base: base,
-            unit: unit,
-            offsets: offsets,
-        });
+fn print_case(rt: &impl Print, table: &Table, case: Case, line: &[u8]) -> io::Result<()> {
+    let found = drive::Table {
+        base: table.base,
+        unit: table.unit,
+        hysteresis: case.hysteresis,
+        offsets: &table.offsets,
     }
-    refuse(rt, number, OUT_OF_RANGE)?;
-    Ok(old)
+    .new_step(case.old, case.reading);
+    rt.write_all(line)?;
+    println!(rt; "\t{}\t{}", found.step, found.compared)
 }
 
-fn take_case(rt: &impl Print, table: Table, line: &[u8], number: u64) -> io::Result<()> {
-    let Byte::Of(old) = byte_at(line, OLD) else {
-        return refuse(rt, number, OUT_OF_RANGE);
-    };
-    let Given::Of(reading) = reading_at(line, READING) else {
-        return refuse(rt, number, OUT_OF_RANGE);
-    };
-    let Byte::Of(hysteresis) = byte_at(line, HYSTERESIS) else {
-        return refuse(rt, number, OUT_OF_RANGE);
-    };
-    let found = drive::new_step(
-        table.base,
-        table.unit,
-        hysteresis,
-        &table.offsets,
-        old,
-        reading,
-    );
-    print(rt, line)?;
-    column(rt, found.step as u64)?;
-    column(rt, found.compared as u64)?;
-    print(rt, b"\n")
-}
-
-fn is_title(line: &[u8]) -> bool {
-    if line.len() == 0 {
-        return false;
-    }
-    line[0] == b'#'
-}
-
-// A line, and the table behind it.
+// What a line prints, and the table behind it: of a line that is refused the one before it.
 fn take(rt: &impl Print, table: Table, line: &[u8], number: u64) -> io::Result<Table> {
-    if is_title(line) {
-        print(rt, line)?;
-        print(rt, b"\n")?;
+    if line.starts_with(b"#") {
+        rt.write_all(line)?;
+        rt.write_all(b"\n")?;
         return Ok(table);
     }
-    let fields = text::count_fields(line);
-    if fields == TABLE_FIELDS {
-        if all_spelt(line, TABLE_FIELDS) {
-            return take_table(rt, table, line, number);
-        }
+    match read_line(line) {
+        Ok(Said::Table(next)) => return Ok(next),
+        Ok(Said::Case(case)) => print_case(rt, &table, case, line)?,
+        Err(refusal) => println!(rt; "E\t{number}\t{}", u8::from(refusal))?,
     }
-    if fields == CASE_FIELDS {
-        if all_spelt(line, CASE_FIELDS) {
-            take_case(rt, table, line, number)?;
-            return Ok(table);
-        }
-    }
-    refuse(rt, number, SPELLING)?;
     Ok(table)
 }
 
-fn take_all(rt: &impl Print, first: Table, s: &[u8]) -> io::Result<()> {
-    let mut table = first;
-    let mut number: u64 = 1;
-    let mut i = 0;
-    while i < s.len() {
-        let e = i + text::line_width(&s[i..]);
-        table = take(rt, table, &s[i..e], number)?;
-        number += 1;
-        i = e + 1;
+fn take_all(rt: &impl Print, input: &[u8]) -> io::Result<()> {
+    let mut table = first_table();
+    let mut number: u64 = 0;
+    for piece in input.split_inclusive(|b| *b == b'\n') {
+        number = number.saturating_add(1);
+        table = take(
+            rt,
+            table,
+            piece.strip_suffix(b"\n").unwrap_or(piece),
+            number,
+        )?;
     }
     Ok(())
 }
 
-// Reads until the input is full or at its end, and answers how many bytes it has.
-fn read_full(reader: &mut impl Read, input: &mut [u8]) -> io::Result<usize>
-    ensures { IfOk result (λ n. n ≤ length input.new) }
-{
-    let mut done = 0;
-    while done < input.len() {
-        let n = reader.read(&mut input[done..])?;
-        if n == 0 {
-            break;
-        }
-        done += n;
-    }
-    Ok(done)
-}
-
 fn main(rt: HostRuntime) -> io::Result<()> {
-    let mut input = [0u8; INPUT];
-    let n = read_full(&mut rt.stdin(), &mut input)?;
-    if n <= INPUT_MOST {
-        take_all(&rt, first_table(), &input[..n])
+    let mut input = Vec::new(rt.alloc());
+    // One byte more tells that there is more.
+    rt.stdin()
+        .take(INPUT_MOST as u64 + 1)
+        .read_to_end(&mut input)?;
+    if input.len() <= INPUT_MOST {
+        take_all(&rt, &input)
     } else {
         rt.eprintln("searches: more than 32768 bytes on standard input")
     }

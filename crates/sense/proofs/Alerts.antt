@@ -1,24 +1,22 @@
 -- The count of errors and ALERT, and what a tick marks: a watched reading that is still missing, and not masked, cannot look healthy.
 -- Assumes nothing.
-use Rattle.std.specs.Prelude.{◌≡◌, false, List, ℕ, suc, ◌<◌, T, length, get_or}
+use Rattle.std.specs.Prelude.{◌≡◌, false, List, ℕ, suc, ◌<◌, T, length, get_or, Option, None}
 use Rattle.std.proofs.Common.{◌∙◌, arith}
 use Rattle.std.specs.Float.Ieee.Bits.{is_true}
 use Rattle.masks.specs.Masks.{zone_masked, volt_masked, fan_masked}
 use Rattle.masks.specs.Table.{zone_same, volt_same, fan_same}
 use Rattle.temperature.specs.declared.Reading.TheVariants as reading
 use Rattle.state.specs.declared.Chip.{Chip}
-use Rattle.state.specs.declared.Zone.{Zone}
-use Rattle.state.specs.declared.Gauge.{Gauge}
-use Rattle.state.specs.declared.Count.TheVariants.{Missing}
 use Rattle.state.specs.Parts.{no_zone, no_gauge, zone_at, volt_at, fan_at}
 use Rattle.sense.specs.Errors.{marked_volt, marked_fan, low_limit, high_limit, fan_limit_at}
 use Rattle.sense.specs.ZoneLimits.{zone_number, zone_watched, marked_zone}
 use Rattle.sense.specs.Missing.{volt_watched, fan_watched, missed_volt, missed_fan, missed_zone, missed_volts, missed_fans, missed_zones, missed_file, missed}
 use Rattle.sense.specs.Marks.{Marks, marks_then, VoltStands, FanStands, ZoneStands, stands_stay}
 use Rattle.sense.proofs.Marks.{volt_stands, fan_stands, zone_stands, missed_volts_marks, missed_fans_marks, missed_zones_marks}
+use Rattle.temperature.specs.declared.Reading.{Reading}
 use Rattle.sense.specs.Alerts.{marks_masks, low_same, high_same, fan_limit_same, watched_same}
 
-module _ (file : List ℕ) (gauges : List Gauge) (i : ℕ) (none : (get_or gauges i no_gauge).count ≡ Missing) where
+module _ (file : List ℕ) (gauges : List (Option ℕ)) (i : ℕ) (none : get_or gauges i no_gauge ≡ None) where
   missed_volts_stand : i < 16 → length file ≡ 256 → T (volt_watched (low_limit file i) (high_limit file i)) → volt_masked file i ≡ false → VoltStands (missed_volts file gauges 16) i
   unfolding missed_volts missed_volt
   missed_volts_stand l long w u =
@@ -33,7 +31,7 @@ module _ (file : List ℕ) (gauges : List Gauge) (i : ℕ) (none : (get_or gauge
       let e : missed_fans file gauges (suc i) ≡ marked_fan (missed_fans file gauges i) i = rw (none, fan_limit_same m i, is_true (fan_watched (fan_limit_at file i)) w) in
       stands_stay (missed_fans_marks file gauges (suc i) 4 l (omega arith)) (rw e (fan_stands (missed_fans file gauges i) i (fan_same (marks_masks m) i ∙ u) (m.long ∙ long)))
 
-missed_zones_stand : (file : List ℕ) (zones : List Zone) (i : ℕ) → (get_or zones i no_zone).reading ≡ reading.Missing → i < 6 → length file ≡ 256 → T (zone_watched file i) → zone_masked file (zone_number i) ≡ false → ZoneStands (missed_zones file zones 6) i
+missed_zones_stand : (file : List ℕ) (zones : List Reading) (i : ℕ) → get_or zones i no_zone ≡ reading.Missing → i < 6 → length file ≡ 256 → T (zone_watched file i) → zone_masked file (zone_number i) ≡ false → ZoneStands (missed_zones file zones 6) i
 unfolding missed_zones missed_zone
 missed_zones_stand file zones i none l long w u =
     let m = missed_zones_marks file zones 0 i (omega arith) (omega arith) in
@@ -64,13 +62,13 @@ module _ (c : Chip) where
   missed_marks = marks_then volts_mark (marks_then fans_mark zones_mark)
 
   -- a watched voltage that is missing at a tick, and not masked, has its bit standing in both groups
-  pub missed_volt_stands : (i : ℕ) → i < 16 → length c.registers ≡ 256 → volt_at c i ≡ Missing → T (volt_watched (low_limit c.registers i) (high_limit c.registers i)) → volt_masked c.registers i ≡ false → VoltStands (missed c).registers i
+  pub missed_volt_stands : (i : ℕ) → i < 16 → length c.registers ≡ 256 → volt_at c i ≡ None → T (volt_watched (low_limit c.registers i) (high_limit c.registers i)) → volt_masked c.registers i ≡ false → VoltStands (missed c).registers i
   unfolding volt_at
   missed_volt_stands i l long e w u =
       stands_stay (marks_then fans_mark zones_mark) (missed_volts_stand c.registers c.volts i e l long w u)
 
   -- so has a watched fan
-  pub missed_fan_stands : (i : ℕ) → i < 4 → length c.registers ≡ 256 → fan_at c i ≡ Missing → T (fan_watched (fan_limit_at c.registers i)) → fan_masked c.registers i ≡ false → FanStands (missed c).registers i
+  pub missed_fan_stands : (i : ℕ) → i < 4 → length c.registers ≡ 256 → fan_at c i ≡ None → T (fan_watched (fan_limit_at c.registers i)) → fan_masked c.registers i ≡ false → FanStands (missed c).registers i
   unfolding fan_at
   missed_fan_stands i l long e w u =
       stands_stay zones_mark (missed_fans_stand volts_done c.fans i e l (volts_mark.long ∙ long) (rw (fan_limit_same volts_mark i) w) (fan_same (marks_masks volts_mark) i ∙ u))

@@ -1,6 +1,6 @@
 -- Register files that are alike but for 40h and 48h, which have the zones' error bits: what sets a zone's bit changes nothing else, and what
 -- sets a voltage's or a fan's goes the same way in both. Assumes nothing.
-use Rattle.std.specs.Prelude.{◌≡◌, ◌≢◌, Bool, List, ltb, get_or, set}
+use Rattle.std.specs.Prelude.{◌≡◌, ◌≢◌, Bool, List, ltb, get_or, set, Option, Some, None}
 use Rattle.std.proofs.Math.Path.{refl, ap₂}
 use Rattle.std.proofs.Common.{sym, arith, length-set, get_or-set_other}
 use Prim.Native.Nat.{ℕ, zero, suc, ◌+◌, ◌*◌}
@@ -11,10 +11,6 @@ use Rattle.masks.specs.Masks.{zone_masked, volt_masked, fan_masked}
 use Rattle.masks.specs.Table.{volt_same, fan_same}
 use Rattle.temperature.specs.declared.Reading.{Reading}
 use Rattle.temperature.specs.declared.Reading.TheVariants as reading
-use Rattle.state.specs.declared.Zone.{Zone}
-use Rattle.state.specs.declared.Gauge.{Gauge}
-use Rattle.state.specs.declared.Count.{Count}
-use Rattle.state.specs.declared.Count.TheVariants.{Taken, Missing}
 use Rattle.state.specs.Parts.{no_zone}
 use Rattle.state.specs.Order.{SameButZones}
 use Rattle.sense.specs.Errors.{with_bit, marked, marked_volt, marked_fan, low_limit, high_limit, fan_limit, fan_limit_at, compared_fan}
@@ -51,10 +47,10 @@ module _ (f : List ℕ) (zone : ℕ) where
   zone_missed reading.Missing = pick_each (SameButZones f) (zone_watched f zone) zone_marked (but_self f)
   zone_missed (reading.Taken n) = but_self f
 
-zones_missed : (f : List ℕ) (zones : List Zone) (n : ℕ) → SameButZones f (missed_zones f zones n)
+zones_missed : (f : List ℕ) (zones : List Reading) (n : ℕ) → SameButZones f (missed_zones f zones n)
 unfolding missed_zones
 zones_missed f zones zero = but_self f
-zones_missed f zones (suc n) = but_then (zones_missed f zones n) (zone_missed (missed_zones f zones n) n (get_or zones n no_zone).reading)
+zones_missed f zones (suc n) = but_then (zones_missed f zones n) (zone_missed (missed_zones f zones n) n (get_or zones n no_zone))
 
 module _ {f g : List ℕ} (s : SameButZones f g) where
   -- a bit is set
@@ -94,33 +90,33 @@ module _ {f g : List ℕ} (s : SameButZones f g) where
   but_hysteresis = rw (s.each SPECIAL_FUNCTION_CONTROL_1 (λ e. omega arith) (λ e. omega arith))
 
   -- V and F: the channel is in error in both or in neither, and the bits are set in both or in neither
-  pub but_erring : (i : ℕ) (before : Bool) (n : Count) → erring_after f i before n ≡ erring_after g i before n
+  pub but_erring : (i : ℕ) (before : Bool) (n : Option ℕ) → erring_after f i before n ≡ erring_after g i before n
   unfolding erring_after
-  but_erring i before Missing = refl
-  but_erring i before (Taken n) = rw (but_low i, but_high i, but_hysteresis)
+  but_erring i before None = refl
+  but_erring i before (Some n) = rw (but_low i, but_high i, but_hysteresis)
 
-  pub but_erred : (i : ℕ) (before : Bool) (n : Count) → SameButZones (erred_volt f i before n) (erred_volt g i before n)
+  pub but_erred : (i : ℕ) (before : Bool) (n : Option ℕ) → SameButZones (erred_volt f i before n) (erred_volt g i before n)
   unfolding erred_volt
-  but_erred i before Missing = s
-  but_erred i before (Taken n) = rw (but_erring i before (Taken n)) (pick_related SameButZones (erring_after g i before (Taken n)) (but_volt i) s)
+  but_erred i before None = s
+  but_erred i before (Some n) = rw (but_erring i before (Some n)) (pick_related SameButZones (erring_after g i before (Some n)) (but_volt i) s)
 
-  pub but_compared : (i : ℕ) (n : Count) → SameButZones (compared_fan f i n) (compared_fan g i n)
+  pub but_compared : (i : ℕ) (n : Option ℕ) → SameButZones (compared_fan f i n) (compared_fan g i n)
   unfolding compared_fan
-  but_compared i Missing = s
-  but_compared i (Taken n) = rw (but_limit i) (pick_related SameButZones (ltb (fan_limit_at g i) n) (but_fan i) s)
+  but_compared i None = s
+  but_compared i (Some n) = rw (but_limit i) (pick_related SameButZones (ltb (fan_limit_at g i) n) (but_fan i) s)
 
   -- K
-  but_missed_volt : (i : ℕ) (n : Count) → SameButZones (missed_volt f i n) (missed_volt g i n)
+  but_missed_volt : (i : ℕ) (n : Option ℕ) → SameButZones (missed_volt f i n) (missed_volt g i n)
   unfolding missed_volt
-  but_missed_volt i Missing = rw (but_low i, but_high i) (pick_related SameButZones (volt_watched (low_limit g i) (high_limit g i)) (but_volt i) s)
-  but_missed_volt i (Taken n) = s
+  but_missed_volt i None = rw (but_low i, but_high i) (pick_related SameButZones (volt_watched (low_limit g i) (high_limit g i)) (but_volt i) s)
+  but_missed_volt i (Some n) = s
 
-  but_missed_fan : (i : ℕ) (n : Count) → SameButZones (missed_fan f i n) (missed_fan g i n)
+  but_missed_fan : (i : ℕ) (n : Option ℕ) → SameButZones (missed_fan f i n) (missed_fan g i n)
   unfolding missed_fan
-  but_missed_fan i Missing = rw (but_limit i) (pick_related SameButZones (fan_watched (fan_limit_at g i)) (but_fan i) s)
-  but_missed_fan i (Taken n) = s
+  but_missed_fan i None = rw (but_limit i) (pick_related SameButZones (fan_watched (fan_limit_at g i)) (but_fan i) s)
+  but_missed_fan i (Some n) = s
 
-module _ {f g : List ℕ} (s : SameButZones f g) (gauges : List Gauge) where
+module _ {f g : List ℕ} (s : SameButZones f g) (gauges : List (Option ℕ)) where
   but_missed_volts : (n : ℕ) → SameButZones (missed_volts f gauges n) (missed_volts g gauges n)
   unfolding missed_volts
   but_missed_volts zero = s
@@ -135,7 +131,7 @@ module _ {f g : List ℕ} (s : SameButZones f g) (gauges : List Gauge) where
 pub but_zone_file : {f g : List ℕ} → SameButZones f g → (zone : ℕ) (q r : Reading) → SameButZones (zone_file f zone q) (zone_file g zone r)
 but_zone_file {f} {g} s zone q r = but_then (but_back (zone_file_lem f zone q)) (but_then s (zone_file_lem g zone r))
 
-pub but_missed_file : {f g : List ℕ} → SameButZones f g → (zs ws : List Zone) (volts fans : List Gauge) → SameButZones (missed_file f zs volts fans) (missed_file g ws volts fans)
+pub but_missed_file : {f g : List ℕ} → SameButZones f g → (zs ws : List Reading) (volts fans : List (Option ℕ)) → SameButZones (missed_file f zs volts fans) (missed_file g ws volts fans)
 unfolding missed_file
 but_missed_file s zs ws volts fans =
     but_then (but_back (zones_missed _ zs 6)) (but_then (but_missed_fans (but_missed_volts s volts 16) fans 4) (zones_missed _ ws 6))

@@ -1,15 +1,12 @@
 -- What each event, and a tick's marks, leave as it was. None of them changes the setup or the drive, and error bits that stand stay.
 -- Assumes nothing.
-use Rattle.std.specs.Prelude.{◌≡◌, refl, ◌≢◌, Bool, true, false, ℕ, ◌≤◌, ◌<◌, ltb}
-use Rattle.std.proofs.Common.{ap, ◌∙◌, arith, ltb-true, get_or-set_other}
+use Rattle.std.specs.Prelude.{◌≡◌, refl, ◌≢◌, Bool, true, false, ℕ, ◌≤◌, ◌<◌, ltb, Option}
+use Rattle.std.proofs.Common.{◌∙◌, arith, ltb-true, get_or-set_other}
 use Rattle.laws.specs.Pick.{pick}
 use Rattle.laws.specs.Pointwise.{pick_each}
 use Rattle.map.specs.Names.{TEMPERATURE_SOURCE_SELECT}
 use Rattle.temperature.specs.declared.Reading.{Reading}
 use Rattle.state.specs.declared.Chip.{Chip}
-use Rattle.state.specs.declared.Zone.{Zone}
-use Rattle.state.specs.declared.Gauge.{Gauge}
-use Rattle.state.specs.declared.Count.{Count}
 use Rattle.state.specs.Parts.{no_zone, no_gauge, register_at, zone_at, volt_at, in_error, fan_at}
 use Rattle.state.specs.With.{with_registers, with_zone, with_volt, with_in_error, with_fan}
 use Rattle.sense.specs.Errors.{compared_fan}
@@ -20,7 +17,7 @@ use Rattle.sense.specs.Keeps.{TemperatureKeeps, VoltageKeeps, FanKeeps}
 
 zone_other : (c : Chip) (zone i : ℕ) (r : Reading) → i ≢ zone → zone_at (with_zone c zone r) i ≡ zone_at c i
 unfolding zone_at with_zone
-zone_other c zone i r n = ap (λ (z : Zone). z.reading) (get_or-set_other c.zones zone i (record { reading = r }) no_zone n)
+zone_other c zone i r n = get_or-set_other c.zones zone i r no_zone n
 
 temperature_same : (c : Chip) (zone : ℕ) → TemperatureKeeps c c zone
 temperature_same c zone =
@@ -40,13 +37,13 @@ voltage_same : (c : Chip) (channel : ℕ) → VoltageKeeps c c channel
 voltage_same c channel =
     record { setup = refl; registers = marks_none c.registers; zones = λ i l. refl; volts = λ i o. refl; erring = λ i o. refl; fans = refl; kept = refl; hot = refl; pin = refl; drive = refl }
 
-voltage_set : (c : Chip) (channel : ℕ) (n : Count) → channel < 16 → VoltageKeeps c (read_volt c channel n) channel
+voltage_set : (c : Chip) (channel : ℕ) (n : Option ℕ) → channel < 16 → VoltageKeeps c (read_volt c channel n) channel
 unfolding read_volt with_volt with_in_error volt_at in_error zone_at
 voltage_set c channel n l = record {
   setup = refl;
   registers = erred_volt_marks c.registers channel l (in_error c channel) n;
   zones = λ i l. refl;
-  volts = λ i o. ap (λ (g : Gauge). g.count) (get_or-set_other c.volts channel i (record { count = n }) no_gauge o);
+  volts = λ i o. get_or-set_other c.volts channel i n no_gauge o;
   erring = λ i o. get_or-set_other c.erring channel i _ false o;
   fans = refl;
   kept = refl;
@@ -71,11 +68,11 @@ voltage_feeds c d channel zone r p k = record {
   drive = k.drive;
 }
 
-fed_keeps : (c d : Chip) (channel : ℕ) (n : Count) → VoltageKeeps c d channel → VoltageKeeps c (fed_zone d channel n) channel
+fed_keeps : (c d : Chip) (channel : ℕ) (n : Option ℕ) → VoltageKeeps c d channel → VoltageKeeps c (fed_zone d channel n) channel
 fed_keeps c d channel n k =
     fed_each (λ (e : Chip). VoltageKeeps c e channel) d channel n (voltage_feeds c d channel 4 (volt_reading n) (omega arith) k) (voltage_feeds c d channel 5 (volt_reading n) (omega arith) k) k
 
-pub voltage_keeps : (c : Chip) (channel : ℕ) (n : Count) → VoltageKeeps c (took_voltage c channel n) channel
+pub voltage_keeps : (c : Chip) (channel : ℕ) (n : Option ℕ) → VoltageKeeps c (took_voltage c channel n) channel
 unfolding took_voltage
 voltage_keeps c channel n = go (ltb channel 16) refl
   where
@@ -83,7 +80,7 @@ voltage_keeps c channel n = go (ltb channel 16) refl
     go true e = fed_keeps c _ channel n (voltage_set c channel n (ltb-true channel 16 e))
     go false e = voltage_same c channel
 
-pub fan_keeps : (c : Chip) (fan : ℕ) (n : Count) → FanKeeps c (took_fan c fan n) fan
+pub fan_keeps : (c : Chip) (fan : ℕ) (n : Option ℕ) → FanKeeps c (took_fan c fan n) fan
 unfolding took_fan with_fan fan_at
 fan_keeps c fan n = go (ltb fan 4)
   where
@@ -94,7 +91,7 @@ fan_keeps c fan n = go (ltb fan 4)
       zones = refl;
       volts = refl;
       erring = refl;
-      fans = λ i o. ap (λ (g : Gauge). g.count) (get_or-set_other c.fans fan i (record { count = n }) no_gauge o);
+      fans = λ i o. get_or-set_other c.fans fan i n no_gauge o;
       kept = refl;
       hot = refl;
       pin = refl;

@@ -1,6 +1,6 @@
 -- What setting error bits does to the register file: bits that stand stay, and no register but an error status register changes.
 -- Assumes nothing.
-use Rattle.std.specs.Prelude.{◌≡◌, refl, Bool, List, ℕ, suc, ◌+◌, ◌/◌, ◌%◌, ◌^◌, ◌≤◌, ◌<◌, ltb, length, get_or}
+use Rattle.std.specs.Prelude.{◌≡◌, refl, Bool, List, ℕ, suc, ◌+◌, ◌/◌, ◌%◌, ◌^◌, ◌≤◌, ◌<◌, ltb, length, get_or, Option, Some, None}
 use Rattle.std.proofs.Common.{arith}
 use Rattle.std.proofs.Math.Bool.{true, false}
 use Rattle.std.proofs.Math.Decide.{le_ind}
@@ -9,10 +9,6 @@ use Rattle.map.specs.Names.{B_ERROR_STATUS_1, B_ERROR_STATUS_2, B_FAN_ERROR_STAT
 use Rattle.masks.specs.Masks.{volt_masked, fan_masked, zone_masked}
 use Rattle.temperature.specs.declared.Reading.{Reading}
 use Rattle.temperature.specs.declared.Reading.TheVariants as reading
-use Rattle.state.specs.declared.Zone.{Zone}
-use Rattle.state.specs.declared.Gauge.{Gauge}
-use Rattle.state.specs.declared.Count.{Count}
-use Rattle.state.specs.declared.Count.TheVariants.{Taken, Missing}
 use Rattle.state.specs.Parts.{no_zone, no_gauge}
 use Rattle.sense.specs.Errors.{with_bit, marked, marked_volt, marked_fan, low_limit, high_limit, fan_limit_at, compared_fan}
 use Rattle.sense.specs.Hysteresis.{erring_after, erred_volt}
@@ -52,15 +48,15 @@ module _ (file : List ℕ) (i : ℕ) (l : i < 16) where
   volt_stands = marked_stands file (B_ERROR_STATUS_2 + i / 8) (H_ERROR_STATUS_2 + i / 8) (2 ^ (i % 8)) (omega arith) (omega arith) (volt_masked file i)
 
   -- so does a reading that is compared, and one that a tick finds missing
-  pub erred_volt_marks : (before : Bool) (n : Count) → Marks file (erred_volt file i before n)
+  pub erred_volt_marks : (before : Bool) (n : Option ℕ) → Marks file (erred_volt file i before n)
   unfolding erred_volt
-  erred_volt_marks before Missing = marks_none file
-  erred_volt_marks before (Taken n) = marks_if (erring_after file i before (Taken n)) volt_marks
+  erred_volt_marks before None = marks_none file
+  erred_volt_marks before (Some n) = marks_if (erring_after file i before (Some n)) volt_marks
 
-  pub missed_volt_marks : (n : Count) → Marks file (missed_volt file i n)
+  pub missed_volt_marks : (n : Option ℕ) → Marks file (missed_volt file i n)
   unfolding missed_volt
-  missed_volt_marks Missing = marks_if (volt_watched (low_limit file i) (high_limit file i)) volt_marks
-  missed_volt_marks (Taken n) = marks_none file
+  missed_volt_marks None = marks_if (volt_watched (low_limit file i) (high_limit file i)) volt_marks
+  missed_volt_marks (Some n) = marks_none file
 
 module _ (file : List ℕ) (i : ℕ) where
   -- the error bit of a fan marks
@@ -74,15 +70,15 @@ module _ (file : List ℕ) (i : ℕ) where
   fan_stands = marked_stands file B_FAN_ERROR_STATUS H_FAN_ERROR_STATUS (2 ^ i) (omega arith) (omega arith) (fan_masked file i)
 
   -- so does a count that is compared, and one that a tick finds missing
-  pub compared_fan_marks : (n : Count) → Marks file (compared_fan file i n)
+  pub compared_fan_marks : (n : Option ℕ) → Marks file (compared_fan file i n)
   unfolding compared_fan
-  compared_fan_marks Missing = marks_none file
-  compared_fan_marks (Taken n) = marks_if (ltb (fan_limit_at file i) n) fan_marks
+  compared_fan_marks None = marks_none file
+  compared_fan_marks (Some n) = marks_if (ltb (fan_limit_at file i) n) fan_marks
 
-  pub missed_fan_marks : (n : Count) → Marks file (missed_fan file i n)
+  pub missed_fan_marks : (n : Option ℕ) → Marks file (missed_fan file i n)
   unfolding missed_fan
-  missed_fan_marks Missing = marks_if (fan_watched (fan_limit_at file i)) fan_marks
-  missed_fan_marks (Taken n) = marks_none file
+  missed_fan_marks None = marks_if (fan_watched (fan_limit_at file i)) fan_marks
+  missed_fan_marks (Some n) = marks_none file
 
 module _ (file : List ℕ) (i : ℕ) where
   -- the error bit of a zone marks
@@ -118,15 +114,15 @@ module _ (step : List ℕ → ℕ → List ℕ) (top : ℕ) (marks : (file : Lis
   run_marks n m l = le_ind (λ (k : ℕ). k ≤ top → Marks (all n) (all k)) (λ q. marks_none (all n)) (λ k p ih q. rw (more k) (marks_then (ih (omega arith)) (marks (all k) k (omega arith)))) m l
 
 -- the marks of a tick, from the first n channels, fans or zones to the first m
-module _ (file : List ℕ) (gauges : List Gauge) where
+module _ (file : List ℕ) (gauges : List (Option ℕ)) where
   pub missed_volts_marks : (n m : ℕ) → n ≤ m → m ≤ 16 → Marks (missed_volts file gauges n) (missed_volts file gauges m)
   unfolding missed_volts
-  missed_volts_marks = run_marks (λ f i. missed_volt f i (get_or gauges i no_gauge).count) 16 (λ f i l. missed_volt_marks f i l (get_or gauges i no_gauge).count) (missed_volts file gauges) (λ i. refl)
+  missed_volts_marks = run_marks (λ f i. missed_volt f i (get_or gauges i no_gauge)) 16 (λ f i l. missed_volt_marks f i l (get_or gauges i no_gauge)) (missed_volts file gauges) (λ i. refl)
 
   pub missed_fans_marks : (n m : ℕ) → n ≤ m → m ≤ 4 → Marks (missed_fans file gauges n) (missed_fans file gauges m)
   unfolding missed_fans
-  missed_fans_marks = run_marks (λ f i. missed_fan f i (get_or gauges i no_gauge).count) 4 (λ f i l. missed_fan_marks f i (get_or gauges i no_gauge).count) (missed_fans file gauges) (λ i. refl)
+  missed_fans_marks = run_marks (λ f i. missed_fan f i (get_or gauges i no_gauge)) 4 (λ f i l. missed_fan_marks f i (get_or gauges i no_gauge)) (missed_fans file gauges) (λ i. refl)
 
-pub missed_zones_marks : (file : List ℕ) (zones : List Zone) (n m : ℕ) → n ≤ m → m ≤ 6 → Marks (missed_zones file zones n) (missed_zones file zones m)
+pub missed_zones_marks : (file : List ℕ) (zones : List Reading) (n m : ℕ) → n ≤ m → m ≤ 6 → Marks (missed_zones file zones n) (missed_zones file zones m)
 unfolding missed_zones
-missed_zones_marks file zones = run_marks (λ f i. missed_zone f i (get_or zones i no_zone).reading) 6 (λ f i l. missed_zone_marks f i (get_or zones i no_zone).reading) (missed_zones file zones) (λ i. refl)
+missed_zones_marks file zones = run_marks (λ f i. missed_zone f i (get_or zones i no_zone)) 6 (λ f i l. missed_zone_marks f i (get_or zones i no_zone)) (missed_zones file zones) (λ i. refl)

@@ -1,6 +1,6 @@
 -- Document 01's cases of errors, 02's of voltage hysteresis, and cases of zone limits and sleep masks, computed on the definitions from
 -- power-on. Assumes nothing.
-use Rattle.std.specs.Prelude.{◌≡◌, refl, true, false, ℕ, ℤ, pos, negsuc}
+use Rattle.std.specs.Prelude.{◌≡◌, refl, true, false, ℕ, ℤ, pos, negsuc, Some}
 use Rattle.laws.specs.Count.{count_to}
 use Rattle.map.specs.Tables.{defaults}
 use Rattle.map.specs.Bits.{is_set}
@@ -8,7 +8,6 @@ use Rattle.masks.specs.Masks.{state_by, sleep_state, is_masked, asleep_volt, vol
 use Rattle.temperature.specs.declared.Reading.TheVariants as reading
 use Rattle.temperature.specs.Temperature.{byte_of, whole_of, whole_byte, degrees_of, count_reading}
 use Rattle.state.specs.declared.Chip.{Chip}
-use Rattle.state.specs.declared.Count.TheVariants.{Taken}
 use Rattle.state.specs.Parts.{register_at, zone_at, zone_enabled, in_error}
 use Rattle.state.specs.With.{with_register, with_zone, with_volt, with_in_error}
 use Rattle.state.specs.PowerOn.{default_setup, power_on, at_rest}
@@ -24,17 +23,17 @@ unfoldable pub limited : Chip
 limited = with_register (with_register (power_on default_setup) 0x9C 80) 0x9D 100
 
 unfoldable pub errors_at : ℕ → ℕ
-errors_at n = errors_standing (took_voltage limited 6 (Taken n)).registers
+errors_at n = errors_standing (took_voltage limited 6 (Some n)).registers
 
 -- "channel 7 limits 80 and 100: 79 and 101 are errors, 80 and 100 not"; the bit is bit 6 of 41h and of 49h
-pub channel_seven : (errors_at 79 ≡ 1) × (errors_at 80 ≡ 0) × (errors_at 100 ≡ 0) × (errors_at 101 ≡ 1) × (register_at (took_voltage limited 6 (Taken 79)) 0x41 ≡ 0x40) × (register_at (took_voltage limited 6 (Taken 79)) 0x49 ≡ 0x40)
+pub channel_seven : (errors_at 79 ≡ 1) × (errors_at 80 ≡ 0) × (errors_at 100 ≡ 0) × (errors_at 101 ≡ 1) × (register_at (took_voltage limited 6 (Some 79)) 0x41 ≡ 0x40) × (register_at (took_voltage limited 6 (Some 79)) 0x49 ≡ 0x40)
 unfolding errors_at limited with_register took_voltage with_volt fed_zone feeds_three feeds_four register_at read_volt in_error with_in_error erred_volt erring_after erring_on ends_error low_move high_move hysteresis_of low_limit high_limit is_outside marked_volt marked volt_masked volt_masking is_masked sleep_state state_by with_bit errors_standing zone_counts volt_counts fan_counts count_to is_set power_on at_rest default_setup defaults
 channel_seven = (refl, refl, refl, refl, refl, refl)
 
 -- 02, Q-2: a reading of channel 7, its error bit cleared in both groups, and a second reading; by its limits and VH
 unfoldable pub read_twice : Chip → ℕ → ℕ → Chip
 read_twice c first second =
-    took_voltage (with_register (with_register (took_voltage c 6 (Taken first)) 0x41 0x00) 0x49 0x00) 6 (Taken second)
+    took_voltage (with_register (with_register (took_voltage c 6 (Some first)) 0x41 0x00) 0x49 0x00) 6 (Some second)
 
 unfoldable pub bounded : ℕ → ℕ → ℕ → Chip
 bounded low high vh = with_register (with_register (with_register (power_on default_setup) 0x9C low) 0x9D high) 0xBC vh
@@ -78,7 +77,7 @@ missing_volt = (refl, refl, refl)
 unfoldable pub sourced : ℕ → Chip
 sourced source = with_register (power_on default_setup) 0x31 source
 
-pub fed : (whole_byte (zone_at (took_voltage (sourced 0x01) 10 (Taken 1)) 4) ≡ 0x81) × (zone_at (took_voltage (took_voltage (sourced 0x01) 10 (Taken 1)) 10 (Taken 0)) 4 ≡ reading.Missing) × (zone_at (took_voltage (sourced 0x11) 10 (Taken 1)) 4 ≡ reading.Missing) × (whole_byte (zone_at (took_voltage (sourced 0x02) 14 (Taken 255)) 5) ≡ 0x7F)
+pub fed : (whole_byte (zone_at (took_voltage (sourced 0x01) 10 (Some 1)) 4) ≡ 0x81) × (zone_at (took_voltage (took_voltage (sourced 0x01) 10 (Some 1)) 10 (Some 0)) 4 ≡ reading.Missing) × (zone_at (took_voltage (sourced 0x11) 10 (Some 1)) 4 ≡ reading.Missing) × (whole_byte (zone_at (took_voltage (sourced 0x02) 14 (Some 255)) 5) ≡ 0x7F)
 unfolding sourced took_voltage with_volt with_zone read_zone zone_file compared_zone zone_watched temps_watched low_temp high_temp zone_number fed_zone feeds_three feeds_four volt_reading count_reading zone_at register_at with_register read_volt in_error with_in_error erred_volt erring_after erring_on ends_error low_move high_move hysteresis_of low_limit high_limit is_outside marked_volt marked volt_masked volt_masking is_masked sleep_state state_by with_bit is_set whole_byte whole_of byte_of power_on at_rest default_setup defaults
 fed = (refl, refl, refl, refl)
 
@@ -124,16 +123,16 @@ unfoldable pub asleep : ℕ → Chip → Chip
 asleep state c = with_register c 0xE4 state
 
 unfoldable pub errors_asleep : ℕ → ℕ → ℕ
-errors_asleep state n = errors_standing (took_voltage (asleep state limited) 6 (Taken n)).registers
+errors_asleep state n = errors_standing (took_voltage (asleep state limited) 6 (Some n)).registers
 
 -- channel 7 is masked in S3 and S4/5: no bit is set, in neither group, and it is in error all the same
-pub channel_seven_masked : (errors_asleep 0 79 ≡ 1) × (errors_asleep 1 79 ≡ 1) × (errors_asleep 2 79 ≡ 0) × (errors_asleep 3 79 ≡ 0) × (register_at (took_voltage (asleep 2 limited) 6 (Taken 79)) 0x41 ≡ 0x00) × (register_at (took_voltage (asleep 2 limited) 6 (Taken 79)) 0x49 ≡ 0x00) × (in_error (took_voltage (asleep 2 limited) 6 (Taken 79)) 6 ≡ true)
+pub channel_seven_masked : (errors_asleep 0 79 ≡ 1) × (errors_asleep 1 79 ≡ 1) × (errors_asleep 2 79 ≡ 0) × (errors_asleep 3 79 ≡ 0) × (register_at (took_voltage (asleep 2 limited) 6 (Some 79)) 0x41 ≡ 0x00) × (register_at (took_voltage (asleep 2 limited) 6 (Some 79)) 0x49 ≡ 0x00) × (in_error (took_voltage (asleep 2 limited) 6 (Some 79)) 6 ≡ true)
 unfolding errors_asleep asleep limited took_voltage with_volt fed_zone feeds_three feeds_four read_volt in_error with_in_error erred_volt erring_after erring_on ends_error low_move high_move hysteresis_of low_limit high_limit is_outside marked_volt marked volt_masked volt_masking asleep_volt fan_masked fan_masking zone_masked zone_masking asleep_zone is_masked sleep_state state_by errors_standing zone_counts volt_counts fan_counts count_to alert_active is_set with_bit with_register register_at with_zone power_on at_rest default_setup defaults
 channel_seven_masked = (refl, refl, refl, refl, refl, refl, refl)
 
 -- "one already standing remains until cleared but no longer holds ALERT"; in S0 again it counts
 unfoldable pub standing : ℕ → Chip
-standing state = asleep state (took_voltage limited 6 (Taken 79))
+standing state = asleep state (took_voltage limited 6 (Some 79))
 
 pub standing_masked : (register_at (standing 2) 0x41 ≡ 0x40) × (errors_standing (standing 2).registers ≡ 0) × (alert_active (standing 2).registers ≡ false) × (errors_standing (asleep 0 (standing 2)).registers ≡ 1) × (alert_active (asleep 0 (standing 2)).registers ≡ true)
 unfolding standing asleep limited took_voltage with_volt fed_zone feeds_three feeds_four read_volt in_error with_in_error erred_volt erring_after erring_on ends_error low_move high_move hysteresis_of low_limit high_limit is_outside marked_volt marked volt_masked volt_masking asleep_volt fan_masked fan_masking zone_masked zone_masking asleep_zone is_masked sleep_state state_by errors_standing zone_counts volt_counts fan_counts count_to alert_active is_set with_bit with_register register_at with_zone power_on at_rest default_setup defaults
@@ -142,7 +141,7 @@ standing_masked = (refl, refl, refl, refl, refl)
 -- in error since a reading that was masked: with VH 2, after 79 in S3 an 81 in S0 sets the bit and an 82 does not
 unfoldable pub held_masked : ℕ → ℕ
 held_masked second =
-    errors_standing (took_voltage (asleep 0 (took_voltage (asleep 2 (bounded 80 100 2)) 6 (Taken 79))) 6 (Taken second)).registers
+    errors_standing (took_voltage (asleep 0 (took_voltage (asleep 2 (bounded 80 100 2)) 6 (Some 79))) 6 (Some second)).registers
 
 pub held_while_masked : (held_masked 81 ≡ 1) × (held_masked 82 ≡ 0)
 unfolding held_masked bounded asleep took_voltage with_volt fed_zone feeds_three feeds_four read_volt in_error with_in_error erred_volt erring_after erring_on ends_error low_move high_move hysteresis_of low_limit high_limit is_outside marked_volt marked volt_masked volt_masking asleep_volt fan_masked fan_masking zone_masked zone_masking asleep_zone is_masked sleep_state state_by errors_standing zone_counts volt_counts fan_counts count_to alert_active is_set with_bit with_register register_at with_zone power_on at_rest default_setup defaults

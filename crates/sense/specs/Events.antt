@@ -1,6 +1,6 @@
 -- Document 01, "Events", and 02, Q-2, Q-7 and Q-12: T and U, V, F, H, A and X on the chip. Zones, channels, fans and inputs count from 0;
 -- one that is not there changes nothing. Assumes nothing.
-use Rattle.std.specs.Prelude.{◌≡◌, Bool, not, List, ℕ, ◌-◌, ◌%◌, ◌<◌, eqb, ltb, get_or, set}
+use Rattle.std.specs.Prelude.{◌≡◌, Bool, not, List, ℕ, ◌-◌, ◌%◌, ◌<◌, eqb, ltb, get_or, set, Option, Some, None}
 use Rattle.std.proofs.Common.{lt-ltb}
 use Rattle.std.specs.Int.Bits.{bit_and, bit_or}
 use Rattle.laws.specs.Pick.{pick, both, either}
@@ -11,8 +11,6 @@ use Rattle.temperature.specs.declared.Reading.{Reading}
 use Rattle.temperature.specs.declared.Reading.TheVariants as reading
 use Rattle.temperature.specs.Temperature.{count_reading}
 use Rattle.state.specs.declared.Chip.{Chip}
-use Rattle.state.specs.declared.Count.{Count}
-use Rattle.state.specs.declared.Count.TheVariants.{Taken, Missing}
 use Rattle.state.specs.Parts.{register_at, in_error}
 use Rattle.state.specs.With.{with_registers, with_pin, with_zone, with_volt, with_in_error, with_fan, with_hot_input}
 use Rattle.sense.specs.Errors.{compared_fan, fan_file}
@@ -42,9 +40,9 @@ took_temperature c zone r = pick (zone_heard (register_at c TEMPERATURE_SOURCE_S
 -- ---- V
 
 -- "A count of 0, or a missing one, makes that zone missing."
-unfoldable pub volt_reading : Count → Reading
-volt_reading Missing = reading.Missing
-volt_reading (Taken n) = count_reading (n % 256)
+unfoldable pub volt_reading : Option ℕ → Reading
+volt_reading None = reading.Missing
+volt_reading (Some n) = count_reading (n % 256)
 
 -- "A V event for channel 11 with INT_AD11 set and INT_WR_E clear also sets zone 3"
 unfoldable pub feeds_three : ℕ → ℕ → Bool
@@ -54,38 +52,38 @@ feeds_three source channel = both (eqb channel 10) (both (not (is_set source INT
 unfoldable pub feeds_four : ℕ → ℕ → Bool
 feeds_four source channel = both (eqb channel 14) (is_set source EXT_AD15)
 
-unfoldable pub fed_zone : Chip → ℕ → Count → Chip
+unfoldable pub fed_zone : Chip → ℕ → Option ℕ → Chip
 fed_zone c channel n =
     pick (feeds_three (register_at c TEMPERATURE_SOURCE_SELECT) channel) (read_zone c 4 (volt_reading n))
     (pick (feeds_four (register_at c TEMPERATURE_SOURCE_SELECT) channel) (read_zone c 5 (volt_reading n)) c)
 
 -- what holds whichever zone is fed, or none
-pub fed_each : (P : Chip → Type 0) (c : Chip) (channel : ℕ) (n : Count) → P (read_zone c 4 (volt_reading n)) → P (read_zone c 5 (volt_reading n)) → P c → P (fed_zone c channel n)
+pub fed_each : (P : Chip → Type 0) (c : Chip) (channel : ℕ) (n : Option ℕ) → P (read_zone c 4 (volt_reading n)) → P (read_zone c 5 (volt_reading n)) → P c → P (fed_zone c channel n)
 unfolding fed_zone
 fed_each P c channel n three four none =
     pick_each P (feeds_three (register_at c TEMPERATURE_SOURCE_SELECT) channel) three
     (pick_each P (feeds_four (register_at c TEMPERATURE_SOURCE_SELECT) channel) four none)
 
 -- the reading, and what follows from it for the channel's error
-unfoldable pub read_volt : Chip → ℕ → Count → Chip
+unfoldable pub read_volt : Chip → ℕ → Option ℕ → Chip
 read_volt c channel n =
     with_in_error (with_registers (with_volt c channel n) (erred_volt c.registers channel (in_error c channel) n)) channel (erring_after c.registers channel (in_error c channel) n)
 
-unfoldable pub took_voltage : Chip → ℕ → Count → Chip
+unfoldable pub took_voltage : Chip → ℕ → Option ℕ → Chip
 took_voltage c channel n = pick (ltb channel 16) (fed_zone (read_volt c channel n) channel n) c
 
 -- V on the parts: a channel that is there sets its reading, whether it is in error and its error bits, and can feed a zone
-pub voltage_by_parts : (c : Chip) (channel : ℕ) (n : Count) → channel < 16 → took_voltage c channel n ≡ fed_zone (with_in_error (with_registers (with_volt c channel n) (voltage_file c.registers channel (in_error c channel) n)) channel (voltage_erring c.registers channel (in_error c channel) n)) channel n
+pub voltage_by_parts : (c : Chip) (channel : ℕ) (n : Option ℕ) → channel < 16 → took_voltage c channel n ≡ fed_zone (with_in_error (with_registers (with_volt c channel n) (voltage_file c.registers channel (in_error c channel) n)) channel (voltage_erring c.registers channel (in_error c channel) n)) channel n
 unfolding took_voltage read_volt voltage_file voltage_erring
 voltage_by_parts c channel n h = rw (lt-ltb channel 16 h)
 
 -- ---- F, H, A, X
 
-unfoldable pub took_fan : Chip → ℕ → Count → Chip
+unfoldable pub took_fan : Chip → ℕ → Option ℕ → Chip
 took_fan c fan n = pick (ltb fan 4) (with_registers (with_fan c fan n) (compared_fan c.registers fan n)) c
 
 -- F on the parts
-pub fan_by_parts : (c : Chip) (fan : ℕ) (n : Count) → fan < 4 → took_fan c fan n ≡ with_registers (with_fan c fan n) (fan_file c.registers fan n)
+pub fan_by_parts : (c : Chip) (fan : ℕ) (n : Option ℕ) → fan < 4 → took_fan c fan n ≡ with_registers (with_fan c fan n) (fan_file c.registers fan n)
 unfolding took_fan fan_file
 fan_by_parts c fan n h = rw (lt-ltb fan 4 h)
 

@@ -1,6 +1,6 @@
 -- Laws of document 02, Q-2: which readings start and end a channel's error, which leave it, and the bit that they set; and that with VH 0
 -- the error bits are those of document 01's rule. Channels count from 0. Assumes nothing.
-use Rattle.std.specs.Prelude.{◌≡◌, Bool, List, ℕ, ◌+◌, ◌≤◌, ◌<◌, eqb, leb, length}
+use Rattle.std.specs.Prelude.{◌≡◌, Bool, List, ℕ, ◌+◌, ◌≤◌, ◌<◌, eqb, leb, length, Option, Some, None}
 use Rattle.std.proofs.Math.Path.{refl}
 use Rattle.std.proofs.Math.Bool.{true, false, not}
 use Rattle.std.proofs.Common.{arith, get_or-set_same}
@@ -10,8 +10,6 @@ use Rattle.laws.specs.Pick.{both, either}
 use Rattle.laws.specs.Both.{both_false, both_with_true, both_left, both_right, both_true}
 use Rattle.laws.specs.Pointwise.{pick_same}
 use Rattle.state.specs.declared.Chip.{Chip}
-use Rattle.state.specs.declared.Count.{Count}
-use Rattle.state.specs.declared.Count.TheVariants.{Taken, Missing}
 use Rattle.state.specs.Parts.{in_error}
 use Rattle.state.specs.With.{with_zone, with_volt, with_in_error}
 use Rattle.sense.specs.Errors.{low_limit, high_limit, is_outside, compared_volt}
@@ -128,24 +126,24 @@ module _ (low high n : ℕ) where
       go false before = both_false before
 
 -- the error bits are those of document 01's rule, for every reading and every limit, whether or not the channel was in error before
-pub zero_errors : (file : List ℕ) (i : ℕ) (before : Bool) (n : Count) → hysteresis_of file ≡ 0 → erred_volt file i before n ≡ compared_volt file i n
+pub zero_errors : (file : List ℕ) (i : ℕ) (before : Bool) (n : Option ℕ) → hysteresis_of file ≡ 0 → erred_volt file i before n ≡ compared_volt file i n
 unfolding erred_volt erring_after compared_volt
-zero_errors file i before Missing z = refl
-zero_errors file i before (Taken n) z = rw (z, zero_erring (low_limit file i) (high_limit file i) n before)
+zero_errors file i before None z = refl
+zero_errors file i before (Some n) z = rw (z, zero_erring (low_limit file i) (high_limit file i) n before)
 
 -- ---- the register file after a reading
 
 module _ (file : List ℕ) (i : ℕ) (before : Bool) (n : ℕ) where
   -- and one that does not sets none
-  pub sound_sets_none : erring_after file i before (Taken n) ≡ false → erred_volt file i before (Taken n) ≡ file
+  pub sound_sets_none : erring_after file i before (Some n) ≡ false → erred_volt file i before (Some n) ≡ file
   unfolding erred_volt
   sound_sets_none e = rw e
 
-fed_erring : (c : Chip) (channel : ℕ) (n : Count) → (fed_zone c channel n).erring ≡ c.erring
+fed_erring : (c : Chip) (channel : ℕ) (n : Option ℕ) → (fed_zone c channel n).erring ≡ c.erring
 unfolding read_zone with_zone
 fed_erring c channel n = fed_each (λ (d : Chip). d.erring ≡ c.erring) c channel n refl refl refl
 
-module _ (c : Chip) (channel : ℕ) (n : Count) (l : channel < 16) where
+module _ (c : Chip) (channel : ℕ) (n : Option ℕ) (l : channel < 16) where
   pub volt_erring : length c.erring ≡ 16 → in_error (took_voltage c channel n) channel ≡ erring_after c.registers channel (in_error c channel) n
   unfolding took_voltage read_volt with_volt with_in_error in_error
   volt_erring long = rw (lt-ltb channel 16 l, fed_erring _ channel n) (get_or-set_same c.erring channel _ false (omega (arith, long)))

@@ -1,20 +1,20 @@
 // How readings come in, and the errors they raise (document 01, "Events" and "Errors and ALERT"; document 02, Q-2 and Q-12).
 #![tactic(auto)]
 
-ghost use Rattle.std.specs.Prelude.{◌≡◌, ◌+◌, ◌-◌, ◌<◌, ◌^◌};
+ghost use Rattle.std.specs.Prelude.{◌≡◌, ◌+◌, ◌-◌, ◌<◌, ◌≤◌, ◌^◌, ◌==◌, MatchOption};
 ghost use Rattle.std.specs.Int.Bits.{bit_and};
 ghost use Rattle.laws.specs.Binary.{has_digit};
 ghost use Rattle.laws.specs.Count.{count_to};
+ghost use Rattle.laws.specs.Pick.{pick};
 ghost use Rattle.map.specs.Bits.{is_set};
-ghost use Rattle.sense.specs.Errors.{with_bit, marked, marked_volt, marked_fan, is_outside, fan_limit, compared_fan, fan_file};
-ghost use Rattle.sense.specs.Hysteresis.{hysteresis_of, low_move, high_move, ends_error, erring_on, erring_after, erred_volt, voltage_file, voltage_erring};
-ghost use Rattle.sense.specs.ZoneLimits.{zone_number, low_temp, high_temp, temps_watched, zone_watched, is_beyond, marked_zone, compared_zone, zone_file};
-ghost use Rattle.sense.specs.Missing.{volt_watched, fan_watched, missed_volt, missed_fan, missed_zone, missed_volts, missed_fans, missed_zones, missed_file};
+ghost use Rattle.sense.specs.Errors.{marked, marked_volt, marked_fan, low_limit, high_limit, is_outside, fan_limit, fan_limit_at, fan_file};
+ghost use Rattle.sense.specs.Hysteresis.{hysteresis_of, ends_error, erring_on, voltage_file, voltage_erring};
+ghost use Rattle.sense.specs.ZoneLimits.{zone_number, low_temp, high_temp, temps_watched, zone_watched, is_beyond, marked_zone, zone_file};
+ghost use Rattle.sense.specs.Missing.{volt_watched, fan_watched, missed_volt, missed_fan, missed_zone, missed_file};
 ghost use Rattle.sense.specs.Standing.{errors_standing, alert_active};
 ghost use Rattle.sense.specs.Events.{zone_three_fed, zone_heard, volt_reading, feeds_three, feeds_four, reset_file};
 
 use map::{bits, registers};
-use state::{Count, Gauge, Zone};
 use temperature::Reading;
 
 // A fan limit, or a fan count, that nothing exceeds.
@@ -32,385 +32,333 @@ fn bit_at(place: u8) -> u8
     requires { place < 8 }
     ensures { result ≡ 2 ^ place }
 {
-    1u8 << place
+    1 << place
 }
 
-// A bit of a register is set.
-fn set_bit(file: &mut [u8; 256], address: u8, bit: u8)
-    ensures { file.new ≡ with_bit file.old address bit }
-{
-    let at = address as usize;
-    file[at] = file[at] | bit;
+// An error bit: its register of the BMC group, that of the Host group, and which of their bits are masked.
+#[derive(Clone, Copy)]
+struct ErrorBit {
+    bmc: u8,
+    host: u8,
+    bit: u8,
+    masks: u8,
 }
 
-// An error bit is set in a register of the BMC group and one of the Host group, unless it is among those that are masked.
-fn mark(file: &mut [u8; 256], masks: u8, bmc: u8, host: u8, bit: u8)
-    ensures { file.new ≡ marked (is_set masks bit) file.old bmc host bit }
-{
-    if map::is_set(masks, bit) {
-        return;
+impl ErrorBit {
+    // Set in both groups, unless it is masked.
+    #[tactic(auto, unfolding(crate::specs::Errors::marked, crate::specs::Errors::with_bit))]
+    fn mark(self, file: &mut [u8; 256])
+        ensures { file.new ≡ marked (is_set self.masks self.bit) file.old self.bmc self.host self.bit }
+    {
+        if !map::is_set(self.masks, self.bit) {
+            file[self.bmc as usize] |= self.bit;
+            file[self.host as usize] |= self.bit;
+        }
     }
-    set_bit(file, bmc, bit);
-    set_bit(file, host, bit);
 }
 
-// The error bit of a voltage. Channels count from 0.
-fn mark_volt(file: &mut [u8; 256], channel: u8)
-    requires { channel < 16 }
-    ensures { file.new ≡ marked_volt file.old channel }
-{
-    let group = channel / 8;
-    let masks = masks::volt_masks(file, group);
-    let bit = bit_at(channel % 8);
-    mark(
-        file,
-        masks,
-        registers::B_ERROR_STATUS_2 + group,
-        registers::H_ERROR_STATUS_2 + group,
-        bit,
-    );
+// ---- channels, fans and zones
+
+// One of N voltage channels, fans or zones, counted from 0.
+#[derive(Clone, Copy)]
+struct Below<const N: u8> {
+    at: u8,
+    ghost in_range: { at < N },
 }
 
-// The error bit of a fan. Fans count from 0.
-fn mark_fan(file: &mut [u8; 256], fan: u8)
-    requires { fan < 4 }
-    ensures { file.new ≡ marked_fan file.old fan }
-{
-    let masks = masks::fan_masks(file);
-    let bit = bit_at(fan);
-    mark(
-        file,
-        masks,
-        registers::B_FAN_ERROR_STATUS,
-        registers::H_FAN_ERROR_STATUS,
-        bit,
-    );
-}
-
-// Of zones 1a, 1b, 2a, 2b, 3, 4, counted from 0, that of zones 1 to 4 whose limits and error bit they have, counted from 0.
-fn zone_number(zone: u8) -> u8
-    requires { zone < 6 }
-    ensures { (result ≡ zone_number zone) × (result < 4) }
-{
-    if zone < 4 {
-        return zone / 2;
+impl<const N: u8> Below<N> {
+    fn new(at: u8) -> Option<Self>
+        ensures { MatchOption result (N ≤ at) (λ v. v.at ≡ at) }
+    {
+        if at < N { Some(Below { at }) } else { None }
     }
-    zone - 2
 }
 
-// The error bit of a zone.
-fn mark_zone(file: &mut [u8; 256], zone: u8)
-    requires { zone < 6 }
-    ensures { file.new ≡ marked_zone file.old zone }
-{
-    let masks = masks::zone_masks(file);
-    let bit = bit_at(zone_number(zone));
-    mark(
-        file,
-        masks,
-        registers::B_ERROR_STATUS_1,
-        registers::H_ERROR_STATUS_1,
-        bit,
-    );
+type Channel = Below<16>;
+
+type Fan = Below<4>;
+
+// Zones 1a, 1b, 2a, 2b, 3, 4.
+type Zone = Below<6>;
+
+// ---- voltages
+
+// The limits of a voltage, and VH, the voltage hysteresis.
+#[derive(Clone, Copy)]
+struct VoltLimits {
+    low: u8,
+    high: u8,
+    vh: u8,
 }
 
-// VH, the voltage hysteresis.
-fn hysteresis_of(file: &[u8; 256]) -> u8
-    ensures { result ≡ hysteresis_of file.now }
-{
-    file[registers::SPECIAL_FUNCTION_CONTROL_1 as usize] & bits::VH
-}
-
-// By how much VH moves a low limit, and a high limit.
-fn low_move(low: u8, vh: u8) -> u8
-    ensures { result ≡ low_move low vh }
-{
-    if low == 0x00 {
-        return 0;
+impl VoltLimits {
+    #[tactic(auto, unfolding(crate::specs::Missing::volt_watched))]
+    fn are_watched(self) -> bool
+        ensures { result ≡ volt_watched self.low self.high }
+    {
+        self.low != 0x00 || self.high != 0xFF
     }
-    vh
-}
 
-fn high_move(high: u8, vh: u8) -> u8
-    ensures { result ≡ high_move high vh }
-{
-    if high == 0xFF {
-        return 0;
+    #[tactic(auto, unfolding(crate::specs::Errors::is_outside))]
+    fn is_outside(self, count: u16) -> bool
+        ensures { result ≡ is_outside self.low self.high count }
+    {
+        count < self.low as u16 || count > self.high as u16
     }
-    vh
-}
 
-fn is_outside(low: u8, high: u8, count: u16) -> bool
-    ensures { result ≡ is_outside low high count }
-{
-    if count < low as u16 {
-        return true;
+    // By how much VH moves a limit: not at all where it is at its end.
+    fn move_of(self, limit: u8, end: u8) -> u32
+        ensures { result ≡ pick (limit == end) 0 self.vh }
+    {
+        if limit == end { 0 } else { self.vh as u32 }
     }
-    (high as u16) < count
-}
 
-// Whether a reading ends an error.
-fn ends_error(low: u8, high: u8, vh: u8, count: u16) -> bool
-    ensures { result ≡ ends_error low high vh count }
-{
-    if low as u32 + low_move(low, vh) as u32 <= count as u32 {
-        return count as u32 + high_move(high, vh) as u32 <= high as u32;
+    // Whether a reading ends an error.
+    #[tactic(auto, unfolding(crate::specs::Hysteresis::ends_error, crate::specs::Hysteresis::low_move, crate::specs::Hysteresis::high_move))]
+    fn ends_error(self, count: u16) -> bool
+        ensures { result ≡ ends_error self.low self.high self.vh count }
+    {
+        self.low as u32 + self.move_of(self.low, 0x00) <= count as u32
+            && count as u32 + self.move_of(self.high, 0xFF) <= self.high as u32
     }
-    false
-}
 
-// Whether a channel is in error after a reading.
-fn is_erring(low: u8, high: u8, vh: u8, before: bool, count: u16) -> bool
-    ensures { result ≡ erring_on low high vh before count }
-{
-    if is_outside(low, high, count) {
-        return true;
+    // Whether a channel is in error after a reading.
+    #[tactic(auto, unfolding(crate::specs::Hysteresis::erring_on))]
+    fn is_erring(self, before: bool, count: u16) -> bool
+        ensures { result ≡ erring_on self.low self.high self.vh before count }
+    {
+        self.is_outside(count) || before && !self.ends_error(count)
     }
-    if before {
-        return !ends_error(low, high, vh, count);
+}
+
+impl Channel {
+    #[tactic(auto, unfolding(crate::specs::Errors::low_limit, crate::specs::Errors::high_limit, crate::specs::Hysteresis::hysteresis_of))]
+    fn limits(self, file: &[u8; 256]) -> VoltLimits
+        ensures low { result.low ≡ low_limit file.now self.at }
+        ensures high { result.high ≡ high_limit file.now self.at }
+        ensures vh { result.vh ≡ hysteresis_of file.now }
+    {
+        let at = registers::AD_IN1_LOW_LIMIT as usize + 2 * self.at as usize;
+        VoltLimits {
+            low: file[at],
+            high: file[at + 1],
+            vh: file[registers::SPECIAL_FUNCTION_CONTROL_1 as usize] & bits::VH,
+        }
     }
-    false
-}
 
-// A fan's limit: six bits in the low byte's top, eight in the high byte.
-fn fan_limit(low: u8, high: u8) -> u16
-    ensures { result ≡ fan_limit low high }
-{
-    (low / 4) as u16 + high as u16 * 64
-}
-
-// A taken voltage that leaves its channel in error sets its bit. Answers whether the channel is in error.
-fn mark_if_erring(file: &mut [u8; 256], channel: u8, before: bool, count: Count) -> bool
-    requires { channel < 16 }
-    ensures { (result ≡ erring_after file.old channel before count) × (file.new ≡ erred_volt file.old channel before count) }
-{
-    let Count::Taken(n) = count else {
-        return before;
-    };
-    let at = registers::AD_IN1_LOW_LIMIT as usize + 2 * (channel as usize);
-    let low = file[at];
-    let high = file[at + 1];
-    let vh = hysteresis_of(file);
-    if is_erring(low, high, vh, before, n) {
-        mark_volt(file, channel);
-        return true;
+    // Its error bit is set, unless it is masked.
+    #[tactic(auto, using(masks::specs::Table::volt_bit), unfolding(crate::specs::Errors::marked_volt))]
+    fn mark(self, file: &mut [u8; 256])
+        ensures { file.new ≡ marked_volt file.old self.at }
+    {
+        let group = self.at / 8;
+        let error = ErrorBit {
+            bmc: registers::B_ERROR_STATUS_2 + group,
+            host: registers::H_ERROR_STATUS_2 + group,
+            bit: bit_at(self.at % 8),
+            masks: masks::volt_masks(file, group),
+        };
+        error.mark(file);
     }
-    false
-}
 
-// A taken fan count above its limit sets its bit.
-fn mark_if_above(file: &mut [u8; 256], fan: u8, count: Count)
-    requires { fan < 4 }
-    ensures { file.new ≡ compared_fan file.old fan count }
-{
-    let Count::Taken(n) = count else {
-        return;
-    };
-    let at = registers::FAN_TACH_1_LIMIT_LSB as usize + 2 * (fan as usize);
-    let low = file[at];
-    let high = file[at + 1];
-    if fan_limit(low, high) < n {
-        mark_fan(file, fan);
+    // A voltage that is watched and missing sets its bit.
+    // Stays: `mark` and `miss` stand three times, for each is masked and watched by other registers; one trait of all three is no shorter.
+    #[tactic(auto, unfolding(crate::specs::Missing::missed_volt))]
+    fn miss(self, file: &mut [u8; 256], count: Option<u16>)
+        ensures { file.new ≡ missed_volt file.old self.at count }
+    {
+        if count.is_none() && self.limits(file).are_watched() {
+            self.mark(file);
+        }
     }
 }
 
 // A voltage reading is compared with its limits and VH, and sets its error bit if it leaves its channel in error. Given whether the channel
 // was in error before, answers whether it is now. Channels count from 0; there are sixteen.
-pub fn compare_voltage(file: &mut [u8; 256], channel: u8, before: bool, count: Count) -> bool
+#[tactic(auto, unfolding(crate::specs::Hysteresis::voltage_file, crate::specs::Hysteresis::voltage_erring, crate::specs::Hysteresis::erred_volt, crate::specs::Hysteresis::erring_after))]
+pub fn compare_voltage(file: &mut [u8; 256], channel: u8, before: bool, count: Option<u16>) -> bool
     ensures { (result ≡ voltage_erring file.old channel before count) × (file.new ≡ voltage_file file.old channel before count) }
 {
-    if channel < 16 {
-        return mark_if_erring(file, channel, before, count);
+    let (Some(channel), Some(n)) = (Channel::new(channel), count) else {
+        return before;
+    };
+    let erring = channel.limits(file).is_erring(before, n);
+    if erring {
+        channel.mark(file);
     }
-    before
+    erring
+}
+
+// ---- fans
+
+impl Fan {
+    // Six bits in the low byte's top, eight in the high byte.
+    #[tactic(auto, unfolding(crate::specs::Errors::fan_limit_at, crate::specs::Errors::fan_limit))]
+    fn limit(self, file: &[u8; 256]) -> u16
+        ensures { result ≡ fan_limit_at file.now self.at }
+    {
+        let at = registers::FAN_TACH_1_LIMIT_LSB as usize + 2 * self.at as usize;
+        (file[at] / 4) as u16 + file[at + 1] as u16 * 64
+    }
+
+    // Its error bit is set, unless it is masked.
+    #[tactic(auto, using(masks::specs::Table::fan_bit), unfolding(crate::specs::Errors::marked_fan))]
+    fn mark(self, file: &mut [u8; 256])
+        ensures { file.new ≡ marked_fan file.old self.at }
+    {
+        let error = ErrorBit {
+            bmc: registers::B_FAN_ERROR_STATUS,
+            host: registers::H_FAN_ERROR_STATUS,
+            bit: bit_at(self.at),
+            masks: masks::fan_masks(file),
+        };
+        error.mark(file);
+    }
+
+    // A fan that is watched and missing sets its bit.
+    #[tactic(auto, unfolding(crate::specs::Missing::missed_fan, crate::specs::Missing::fan_watched))]
+    fn miss(self, file: &mut [u8; 256], count: Option<u16>)
+        ensures { file.new ≡ missed_fan file.old self.at count }
+    {
+        if count.is_none() && self.limit(file) != FAN_TOP {
+            self.mark(file);
+        }
+    }
 }
 
 // A fan count is compared with its limit, and can set its error bit. Fans count from 0; there are four.
-pub fn compare_count(file: &mut [u8; 256], fan: u8, count: Count)
+#[tactic(auto, unfolding(crate::specs::Errors::fan_file, crate::specs::Errors::compared_fan))]
+pub fn compare_count(file: &mut [u8; 256], fan: u8, count: Option<u16>)
     ensures { file.new ≡ fan_file file.old fan count }
 {
-    if fan < 4 {
-        mark_if_above(file, fan, count);
-    }
-}
-
-// ---- zone limits
-
-// Whether limits are others than those of a zone that is not watched.
-fn temps_watched(low: u8, high: u8) -> bool
-    ensures { result ≡ temps_watched low high }
-{
-    if low == LOW_TEMP_UNWATCHED {
-        return high != HIGH_TEMP_UNWATCHED;
-    }
-    true
-}
-
-// The limits of a zone, whole degrees.
-fn low_temp(file: &[u8; 256], zone: u8) -> u8
-    requires { zone < 6 }
-    ensures { result ≡ low_temp file.now zone }
-{
-    file[registers::ZONE_1_LOW_TEMP as usize + 2 * (zone_number(zone) as usize)]
-}
-
-fn high_temp(file: &[u8; 256], zone: u8) -> u8
-    requires { zone < 6 }
-    ensures { result ≡ high_temp file.now zone }
-{
-    file[registers::ZONE_1_LOW_TEMP as usize + 2 * (zone_number(zone) as usize) + 1]
-}
-
-// Whether a zone is watched, by its limits and 31h.
-fn zone_watched(file: &[u8; 256], zone: u8) -> bool
-    requires { zone < 6 }
-    ensures { result ≡ zone_watched file.now zone }
-{
-    if temps_watched(low_temp(file, zone), high_temp(file, zone)) {
-        return state::zone_enabled(file[registers::TEMPERATURE_SOURCE_SELECT as usize], zone);
-    }
-    false
-}
-
-// Whether a reading is below a low limit or above a high one, in degrees.
-fn is_beyond(low: u8, high: u8, n: i16) -> bool
-    ensures { result ≡ is_beyond low high n }
-{
-    if n < temperature::from_degrees(low) {
-        return true;
-    }
-    temperature::from_degrees(high) < n
-}
-
-// A taken reading of a watched zone beyond its limits sets its bit.
-fn mark_if_beyond(file: &mut [u8; 256], zone: u8, reading: Reading)
-    requires { zone < 6 }
-    ensures { file.new ≡ compared_zone file.old zone reading }
-{
-    let Reading::Taken(n) = reading else {
+    let (Some(fan), Some(n)) = (Fan::new(fan), count) else {
         return;
     };
-    if zone_watched(file, zone) {
-        if is_beyond(low_temp(file, zone), high_temp(file, zone), n) {
-            mark_zone(file, zone);
+    if fan.limit(file) < n {
+        fan.mark(file);
+    }
+}
+
+// ---- zones
+
+// The limits of a zone, in degrees.
+#[derive(Clone, Copy)]
+struct ZoneLimits {
+    low: u8,
+    high: u8,
+}
+
+impl ZoneLimits {
+    #[tactic(auto, unfolding(crate::specs::ZoneLimits::temps_watched))]
+    fn are_watched(self) -> bool
+        ensures { result ≡ temps_watched self.low self.high }
+    {
+        self.low != LOW_TEMP_UNWATCHED || self.high != HIGH_TEMP_UNWATCHED
+    }
+
+    // Whether a reading is below the low limit or above the high one.
+    #[tactic(auto, unfolding(crate::specs::ZoneLimits::is_beyond))]
+    fn is_beyond(self, n: i16) -> bool
+        ensures { result ≡ is_beyond self.low self.high n }
+    {
+        n < temperature::from_degrees(self.low) || n > temperature::from_degrees(self.high)
+    }
+}
+
+impl Zone {
+    // That of zones 1 to 4 whose limits and error bit it has, counted from 0.
+    #[tactic(auto, unfolding(crate::specs::ZoneLimits::zone_number))]
+    fn number(self) -> u8
+        ensures { (result ≡ zone_number self.at) × (result < 4) }
+    {
+        if self.at < 4 {
+            self.at / 2
+        } else {
+            self.at - 2
+        }
+    }
+
+    #[tactic(auto, unfolding(crate::specs::ZoneLimits::low_temp, crate::specs::ZoneLimits::high_temp))]
+    fn limits(self, file: &[u8; 256]) -> ZoneLimits
+        ensures low { result.low ≡ low_temp file.now self.at }
+        ensures high { result.high ≡ high_temp file.now self.at }
+    {
+        let at = registers::ZONE_1_LOW_TEMP as usize + 2 * self.number() as usize;
+        ZoneLimits {
+            low: file[at],
+            high: file[at + 1],
+        }
+    }
+
+    // By its limits and 31h.
+    #[tactic(auto, unfolding(crate::specs::ZoneLimits::zone_watched))]
+    fn is_watched(self, file: &[u8; 256]) -> bool
+        ensures { result ≡ zone_watched file.now self.at }
+    {
+        self.limits(file).are_watched()
+            && state::zone_enabled(file[registers::TEMPERATURE_SOURCE_SELECT as usize], self.at)
+    }
+
+    // Its error bit is set, unless it is masked.
+    #[tactic(auto, using(masks::specs::Table::zone_bit), unfolding(crate::specs::ZoneLimits::marked_zone))]
+    fn mark(self, file: &mut [u8; 256])
+        ensures { file.new ≡ marked_zone file.old self.at }
+    {
+        let error = ErrorBit {
+            bmc: registers::B_ERROR_STATUS_1,
+            host: registers::H_ERROR_STATUS_1,
+            bit: bit_at(self.number()),
+            masks: masks::zone_masks(file),
+        };
+        error.mark(file);
+    }
+
+    // A zone that is watched and missing sets its bit.
+    #[tactic(auto, unfolding(crate::specs::Missing::missed_zone))]
+    fn miss(self, file: &mut [u8; 256], reading: Reading)
+        ensures { file.new ≡ missed_zone file.old self.at reading }
+    {
+        if reading == Reading::Missing && self.is_watched(file) {
+            self.mark(file);
         }
     }
 }
 
 // A zone's reading is compared with its limits, and can set its error bit. Zones count from 0; there are six.
+#[tactic(auto, unfolding(crate::specs::ZoneLimits::zone_file, crate::specs::ZoneLimits::compared_zone))]
 pub fn compare_zone(file: &mut [u8; 256], zone: u8, reading: Reading)
     ensures { file.new ≡ zone_file file.old zone reading }
 {
-    if zone < 6 {
-        mark_if_beyond(file, zone, reading);
-    }
-}
-
-// ---- the missing marks of a tick
-
-fn volt_watched(low: u8, high: u8) -> bool
-    ensures { result ≡ volt_watched low high }
-{
-    if low == 0 {
-        return high != 0xFF;
-    }
-    true
-}
-
-fn fan_watched(limit: u16) -> bool
-    ensures { result ≡ fan_watched limit }
-{
-    limit != FAN_TOP
-}
-
-// A voltage that is watched and missing sets its bit.
-fn miss_volt(file: &mut [u8; 256], channel: u8, count: Count)
-    requires { channel < 16 }
-    ensures { file.new ≡ missed_volt file.old channel count }
-{
-    let Count::Missing = count else {
+    let (Some(zone), Reading::Taken(n)) = (Zone::new(zone), reading) else {
         return;
     };
-    let at = registers::AD_IN1_LOW_LIMIT as usize + 2 * (channel as usize);
-    let low = file[at];
-    let high = file[at + 1];
-    if volt_watched(low, high) {
-        mark_volt(file, channel);
+    if zone.is_watched(file) && zone.limits(file).is_beyond(n) {
+        zone.mark(file);
     }
 }
 
-// A fan that is watched and missing sets its bit.
-fn miss_fan(file: &mut [u8; 256], fan: u8, count: Count)
-    requires { fan < 4 }
-    ensures { file.new ≡ missed_fan file.old fan count }
-{
-    let Count::Missing = count else {
-        return;
-    };
-    let at = registers::FAN_TACH_1_LIMIT_LSB as usize + 2 * (fan as usize);
-    let low = file[at];
-    let high = file[at + 1];
-    if fan_watched(fan_limit(low, high)) {
-        mark_fan(file, fan);
-    }
-}
-
-// A zone that is watched and missing sets its bit.
-fn miss_zone(file: &mut [u8; 256], zone: u8, reading: Reading)
-    requires { zone < 6 }
-    ensures { file.new ≡ missed_zone file.old zone reading }
-{
-    let Reading::Missing = reading else {
-        return;
-    };
-    if zone_watched(file, zone) {
-        mark_zone(file, zone);
-    }
-}
-
-fn miss_volts(file: &mut [u8; 256], volts: [Gauge; 16])
-    ensures { file.new ≡ missed_volts file.old volts 16 }
-{
-    let mut i: u8 = 0;
-    while i < 16 {
-        let gauge = volts[i as usize];
-        let count = gauge.count;
-        miss_volt(file, i, count);
-        i += 1;
-    }
-}
-
-fn miss_fans(file: &mut [u8; 256], fans: [Gauge; 4])
-    ensures { file.new ≡ missed_fans file.old fans 4 }
-{
-    let mut i: u8 = 0;
-    while i < 4 {
-        let gauge = fans[i as usize];
-        let count = gauge.count;
-        miss_fan(file, i, count);
-        i += 1;
-    }
-}
-
-fn miss_zones(file: &mut [u8; 256], zones: [Zone; 6])
-    ensures { file.new ≡ missed_zones file.old zones 6 }
-{
-    let mut i: u8 = 0;
-    while i < 6 {
-        let z = zones[i as usize];
-        let reading = z.reading;
-        miss_zone(file, i, reading);
-        i += 1;
-    }
-}
+// ---- a tick
 
 // At a tick every watched reading that is still missing sets its bit.
-pub fn mark_missing(file: &mut [u8; 256], zones: [Zone; 6], volts: [Gauge; 16], fans: [Gauge; 4])
-    ensures { file.new ≡ missed_file file.old zones volts fans }
+#[tactic(auto, unfolding(crate::specs::Missing::missed_volts, crate::specs::Missing::missed_fans, crate::specs::Missing::missed_zones, crate::specs::Missing::missed_file))]
+pub fn mark_missing(
+    file: &mut [u8; 256],
+    zones: &[Reading; 6],
+    volts: &[Option<u16>; 16],
+    fans: &[Option<u16>; 4],
+)
+    ensures { file.new ≡ missed_file file.old zones.now volts.now fans.now }
 {
-    miss_volts(file, volts);
-    miss_fans(file, fans);
-    miss_zones(file, zones);
+    // Stays: three loops, for channels, fans and zones are three types, and their readings are of two.
+    for i in 0..16 {
+        Channel { at: i }.miss(file, volts[i as usize]);
+    }
+    for i in 0..4 {
+        Fan { at: i }.miss(file, fans[i as usize]);
+    }
+    for i in 0..6 {
+        Zone { at: i }.miss(file, zones[i as usize]);
+    }
 }
 
 // ---- errors standing, and ALERT
@@ -420,7 +368,7 @@ fn ones_in(first: u8, second: u8, fans: u8, zones: u8) -> u32
     ensures { result ≡ count_to (has_digit first) 8 + count_to (has_digit second) 8 + count_to (has_digit fans) 4 + count_to (has_digit zones) 4 }
 {
     let halves = zones % 16 * 16 + fans % 16;
-    u32::count_ones(((halves as u32) * 256 + second as u32) * 256 + first as u32)
+    u32::from_le_bytes([first, second, halves, 0]).count_ones()
 }
 
 // What is left of a byte without the bits that are masked.
@@ -431,6 +379,7 @@ fn unmasked(byte: u8, masks: u8) -> u8
 }
 
 // The number of zone, voltage and fan errors that stand in the BMC group and are not masked, 0 to 24.
+#[tactic(auto, using(crate::specs::Ones::errors_are))]
 pub fn errors_standing(file: &[u8; 256]) -> u32
     ensures { result ≡ errors_standing file.now }
 {
@@ -454,82 +403,64 @@ pub fn errors_standing(file: &[u8; 256]) -> u32
 }
 
 // Whether ALERT is active.
+#[tactic(auto, unfolding(crate::specs::Standing::alert_active))]
 pub fn alert_active(file: &[u8; 256]) -> bool
     ensures { result ≡ alert_active file.now }
 {
-    if map::is_set(file[registers::CONFIGURATION as usize], bits::GMSK) {
-        return false;
-    }
-    0 < errors_standing(file)
+    !map::is_set(file[registers::CONFIGURATION as usize], bits::GMSK) && 0 < errors_standing(file)
 }
 
 // ---- events
 
 // Whether zone 3 takes its reading from elsewhere than T, by 31h.
+#[tactic(auto, unfolding(crate::specs::Events::zone_three_fed))]
 fn zone_three_fed(source: u8) -> bool
     ensures { result ≡ zone_three_fed source }
 {
-    if map::is_set(source, bits::INT_AD11) {
-        return true;
-    }
-    map::is_set(source, bits::INT_WR_E)
+    map::is_set(source, bits::INT_AD11) || map::is_set(source, bits::INT_WR_E)
 }
 
 // T and U: whether they set their zone, by 31h. Zones count from 0 in the order 1a, 1b, 2a, 2b, 3; the sixth has neither.
+#[tactic(auto, unfolding(crate::specs::Events::zone_heard))]
 pub fn hears_zone(source: u8, zone: u8) -> bool
     ensures { result ≡ zone_heard source zone }
 {
-    if zone < 4 {
-        return true;
-    }
-    if zone == 4 {
-        if zone_three_fed(source) {
-            return false;
-        }
-        return true;
-    }
-    false
+    zone < 4 || zone == 4 && !zone_three_fed(source)
 }
 
 // V: the temperature that a voltage count stands for.
-pub fn volt_reading(count: Count) -> Reading
+#[tactic(auto, unfolding(crate::specs::Events::volt_reading))]
+pub fn volt_reading(count: Option<u16>) -> Reading
     ensures { result ≡ volt_reading count }
 {
-    let Count::Taken(n) = count else {
-        return Reading::Missing;
-    };
-    temperature::from_count((n % 256) as u8)
+    count.map_or(
+        Reading::Missing,
+        |n| temperature::from_count((n % 256) as u8),
+    )
 }
 
 // V: whether a channel also sets zone 3, by 31h. Channels count from 0.
+#[tactic(auto, unfolding(crate::specs::Events::feeds_three))]
 pub fn feeds_three(source: u8, channel: u8) -> bool
     ensures { result ≡ feeds_three source channel }
 {
-    if channel == 10 {
-        if map::is_set(source, bits::INT_WR_E) {
-            return false;
-        }
-        return map::is_set(source, bits::INT_AD11);
-    }
-    false
+    channel == 10 && !map::is_set(source, bits::INT_WR_E) && map::is_set(source, bits::INT_AD11)
 }
 
 // V: whether a channel also sets zone 4, by 31h. Channels count from 0.
+#[tactic(auto, unfolding(crate::specs::Events::feeds_four))]
 pub fn feeds_four(source: u8, channel: u8) -> bool
     ensures { result ≡ feeds_four source channel }
 {
-    if channel == 14 {
-        return map::is_set(source, bits::EXT_AD15);
-    }
-    false
+    channel == 14 && map::is_set(source, bits::EXT_AD15)
 }
 
 // X: the reset pin. It clears LOCK, sets GMSK and the sleep state S4/S5, and nothing else.
+#[tactic(auto, unfolding(crate::specs::Events::reset_file))]
 pub fn take_reset(file: &mut [u8; 256])
     ensures { file.new ≡ reset_file file.old }
 {
     let configuration = file[registers::CONFIGURATION as usize];
-    let sleep = file[registers::SLEEP_STATE_CONTROL as usize];
-    file[registers::CONFIGURATION as usize] = (configuration & !bits::LOCK) | bits::GMSK;
-    file[registers::SLEEP_STATE_CONTROL as usize] = sleep | bits::S4_5;
+    file[registers::CONFIGURATION as usize] = configuration & !bits::LOCK | bits::GMSK;
+    file[registers::SLEEP_STATE_CONTROL as usize] |= bits::S4_5;
 }

@@ -1,6 +1,6 @@
 -- Document 02, Q-6: "S lines written before mean what they meant; an old reader refuses a line with an offset above 15 with 1." Assumes
 -- nothing.
-use Rattle.std.specs.Prelude.{◌≡◌, Bool, List, ℕ, ◌+◌, ◌-◌, ◌≤◌, ◌<◌, leb, get_or}
+use Rattle.std.specs.Prelude.{◌≡◌, Bool, List, Option, None, Some, ℕ, ◌+◌, ◌-◌, ◌≤◌, ◌<◌, leb, get_or}
 use Rattle.std.proofs.Math.Path.{refl}
 use Rattle.std.proofs.Math.Bool.{true, false}
 use Rattle.std.proofs.Math.Decide.{dec_lt}
@@ -13,12 +13,14 @@ use Rattle.laws.specs.Never.{never}
 use Rattle.laws.specs.Every.{every, every_at, every_of, every_stop}
 use Rattle.laws.specs.Tab.{tab, tab_at, tab_long}
 use Rattle.text.specs.declared.Number.{Number}
-use Rattle.text.specs.declared.Number.TheVariants.{Wrong, Dash, Plus, Minus}
+use Rattle.text.specs.declared.Number.TheVariants.{Dash, Plus, Minus}
 use Rattle.text.specs.Number.{is_spelt}
 use Rattle.state.specs.declared.Setup.{Setup}
+use Rattle.state.specs.declared.Refusal.TheVariants as refusal
+use Rattle.state.specs.Refusal.{number_of, number_returned}
 use Rattle.state.specs.Most.{OFFSET_MOST}
 use Rattle.settings.specs.Places.{OFFSETS12, OFFSETS34, HYSTERESES, NUMBERS}
-use Rattle.settings.specs.Settings.{setting_at, up_to, range_of, is_within, plain_of, signed_of, setup_by, refused_settings, answered, is_setup, settings_of}
+use Rattle.settings.specs.Settings.{setting_at, up_to, range_of, is_within, plain_of, signed_of, setup_by, refused_settings, answered, is_setup, settings_of, setup_or_default}
 use Rattle.settings.specs.Ranges.{offset_range}
 use Rattle.settings.specs.Before.{OLD_OFFSET_MOST, is_offset, old_range_of, old_settings_of, Wide, first, second}
 
@@ -45,14 +47,14 @@ unfolding old_range_of
 same_range k o = rw o
 
 -- in range before is in range now
-offset_wider : (n : Number) → is_within (up_to OLD_OFFSET_MOST) n ≡ true → is_within (up_to OFFSET_MOST) n ≡ true
+offset_wider : (n : Option Number) → is_within (up_to OLD_OFFSET_MOST) n ≡ true → is_within (up_to OFFSET_MOST) n ≡ true
 unfolding is_within
-offset_wider Wrong e = e
-offset_wider Dash e = e
-offset_wider (Plus v) e = le-leb v OFFSET_MOST (omega (arith, leb-true v OLD_OFFSET_MOST e))
-offset_wider (Minus v) e = e
+offset_wider None e = e
+offset_wider (Some Dash) e = e
+offset_wider (Some (Plus v)) e = le-leb v OFFSET_MOST (omega (arith, leb-true v OLD_OFFSET_MOST e))
+offset_wider (Some (Minus v)) e = e
 
-wider : (k : ℕ) (n : Number) → is_within (old_range_of k) n ≡ true → is_within (range_of k) n ≡ true
+wider : (k : ℕ) (n : Option Number) → is_within (old_range_of k) n ≡ true → is_within (range_of k) n ≡ true
 wider k n = go (is_offset k) refl
   where
     go : (b : Bool) → is_offset k ≡ b → is_within (old_range_of k) n ≡ true → is_within (range_of k) n ≡ true
@@ -60,24 +62,24 @@ wider k n = go (is_offset k) refl
     go false o = rw (same_range k o) (λ e. e)
 
 -- an offset in range now and not above 15 was in range before
-offset_narrow : (n : Number) → plain_of n ≤ OLD_OFFSET_MOST → is_within (up_to OFFSET_MOST) n ≡ true → is_within (up_to OLD_OFFSET_MOST) n ≡ true
+offset_narrow : (n : Option Number) → plain_of n ≤ OLD_OFFSET_MOST → is_within (up_to OFFSET_MOST) n ≡ true → is_within (up_to OLD_OFFSET_MOST) n ≡ true
 unfolding is_within plain_of
-offset_narrow Wrong h e = e
-offset_narrow Dash h e = e
-offset_narrow (Plus v) h e = le-leb v OLD_OFFSET_MOST h
-offset_narrow (Minus v) h e = e
+offset_narrow None h e = e
+offset_narrow (Some Dash) h e = e
+offset_narrow (Some (Plus v)) h e = le-leb v OLD_OFFSET_MOST h
+offset_narrow (Some (Minus v)) h e = e
 
 -- one above 15 was not
-offset_wide : (n : Number) → OLD_OFFSET_MOST < plain_of n → is_within (up_to OLD_OFFSET_MOST) n ≡ false
+offset_wide : (n : Option Number) → OLD_OFFSET_MOST < plain_of n → is_within (up_to OLD_OFFSET_MOST) n ≡ false
 unfolding is_within plain_of
-offset_wide Wrong h = absurd (omega arith)
-offset_wide Dash h = absurd (omega arith)
-offset_wide (Plus v) h = lt-leb v OLD_OFFSET_MOST h
-offset_wide (Minus v) h = absurd (omega arith)
+offset_wide None h = absurd (omega arith)
+offset_wide (Some Dash) h = absurd (omega arith)
+offset_wide (Some (Plus v)) h = lt-leb v OLD_OFFSET_MOST h
+offset_wide (Some (Minus v)) h = absurd (omega arith)
 
 -- ---- the numbers of a setup
 
-module _ (n : ℕ → Number) where
+module _ (n : ℕ → Option Number) where
   -- number k is in its range, before and now
   abbrev in_old : ℕ → Bool
   in_old k = is_within (old_range_of k) (n k)
@@ -163,16 +165,16 @@ module _ (n : ℕ → Number) where
 
 module _ (x : Setup) where
   -- one that was taken was in range
-  answer_before : (fits spelt old now up : Bool) → (old ≡ true → now ≡ true) → (answered fits spelt old up x).refusal ≡ 0 → answered fits spelt now up x ≡ answered fits spelt old up x
-  unfolding refused_settings
+  answer_before : (fits spelt old now up : Bool) → (old ≡ true → now ≡ true) → number_returned (answered fits spelt old up x) ≡ 0 → answered fits spelt now up x ≡ answered fits spelt old up x
+  unfolding number_of
   answer_before true true true now up h z = rw (h refl)
   answer_before true true false now up h z = absurd (omega arith)
   answer_before true false old now up h z = refl
   answer_before false spelt old now up h z = refl
 
   -- one that is taken, and was out of range if it is wide
-  answer_wide : (fits spelt old now up : Bool) → (Wide x → old ≡ false) → (answered fits spelt now up x).refusal ≡ 0 → Wide (answered fits spelt now up x).setup → answered fits spelt old up x ≡ refused_settings 1
-  unfolding refused_settings
+  answer_wide : (fits spelt old now up : Bool) → (Wide x → old ≡ false) → number_returned (answered fits spelt now up x) ≡ 0 → Wide (setup_or_default (answered fits spelt now up x)) → answered fits spelt old up x ≡ refused_settings refusal.Setup
+  unfolding number_of
   answer_wide true true old true true h z w = rw (h w)
   answer_wide true true old true false h z w = absurd (omega arith)
   answer_wide true true old false up h z w = absurd (omega arith)
@@ -180,7 +182,7 @@ module _ (x : Setup) where
   answer_wide false spelt old now up h z w = absurd (omega arith)
 
   -- one that has no such offset, or is refused
-  answer_narrow : (fits spelt old now up : Bool) → (old ≡ true → now ≡ true) → ((Wide x → ⊥) → now ≡ true → old ≡ true) → (Wide (answered fits spelt now up x).setup → ⊥) → answered fits spelt old up x ≡ answered fits spelt now up x
+  answer_narrow : (fits spelt old now up : Bool) → (old ≡ true → now ≡ true) → ((Wide x → ⊥) → now ≡ true → old ≡ true) → (Wide (setup_or_default (answered fits spelt now up x)) → ⊥) → answered fits spelt old up x ≡ answered fits spelt now up x
   answer_narrow true true old true true h g w = rw (g w refl)
   answer_narrow true true old true false h g w = rw (both_false old)
   answer_narrow true true true false up h g w = let e = h refl in absurd (never (cc))
@@ -190,19 +192,19 @@ module _ (x : Setup) where
 
 module _ (s : List ℕ) where
   -- "S lines written before mean what they meant": a line that the old ranges take is taken now, with the same setup
-  pub meant_before : (old_settings_of s).refusal ≡ 0 → settings_of s ≡ old_settings_of s
+  pub meant_before : number_returned (old_settings_of s) ≡ 0 → settings_of s ≡ old_settings_of s
   unfolding settings_of old_settings_of
   meant_before =
       answer_before _ (is_setup s) (every NUMBERS (λ k. is_spelt (setting_at s k))) _ _ _ (within_wider (setting_at s))
 
   -- "an old reader refuses a line with an offset above 15 with 1": one that is taken now
-  pub wide_refused : (settings_of s).refusal ≡ 0 → Wide (settings_of s).setup → old_settings_of s ≡ refused_settings 1
+  pub wide_refused : number_returned (settings_of s) ≡ 0 → Wide (setup_or_default (settings_of s)) → old_settings_of s ≡ refused_settings refusal.Setup
   unfolding settings_of old_settings_of
   wide_refused =
       answer_wide _ (is_setup s) (every NUMBERS (λ k. is_spelt (setting_at s k))) _ (within (setting_at s)) _ (wide_out (setting_at s))
 
   -- to any other line it answers what is answered now: the setup, or the same refusal
-  pub narrow_same : (Wide (settings_of s).setup → ⊥) → old_settings_of s ≡ settings_of s
+  pub narrow_same : (Wide (setup_or_default (settings_of s)) → ⊥) → old_settings_of s ≡ settings_of s
   unfolding settings_of old_settings_of
   narrow_same =
       answer_narrow _ (is_setup s) (every NUMBERS (λ k. is_spelt (setting_at s k))) _ _ _ (within_wider (setting_at s)) (narrow_in (setting_at s))

@@ -1,4 +1,4 @@
 -- What the proofs of several functions cite.
-pub mod NotDash
-pub mod Filled
+pub mod Made
 pub mod Before
+pub mod NotDash

@@ -1,5 +1,5 @@
 -- The setup of an S line is one that is taken: each number in its range, and duties that never fall. Assumes nothing.
-use Rattle.std.specs.Prelude.{◌≡◌, refl, Bool, true, false, List, leb}
+use Rattle.std.specs.Prelude.{◌≡◌, refl, Bool, true, false, List, Option, None, Some, leb}
 use Prim.Native.Nat.{ℕ, zero, suc, ◌+◌, ◌≤◌, ◌<◌}
 use native.Mathlib.Omega.{arith}
 use Rattle.std.proofs.Common.{le-leb}
@@ -8,45 +8,45 @@ use Rattle.laws.specs.Every.{every, every_at, every_of}
 use Rattle.laws.specs.AllPass.{all_pass}
 use Rattle.laws.specs.Tab.{tab, tab_at, tab_long}
 use Rattle.text.specs.declared.Number.{Number}
-use Rattle.text.specs.declared.Number.TheVariants.{Wrong, Dash, Plus, Minus}
+use Rattle.text.specs.declared.Number.TheVariants.{Dash, Plus, Minus}
 use Rattle.text.specs.Number.{is_spelt}
 use Rattle.state.specs.declared.Setup.{Setup}
 use Rattle.state.specs.Most.{DEGREES_MOST, OFFSET_MOST, HYSTERESIS_MOST, DUTY_MOST}
 use Rattle.state.specs.Valid.{degrees_in, boost_in, override_in, bases_in, numbers_in, never_fall, boosts_in, overrides_in, tables_in, fans_in, setup_in, Valid, default_valid}
 use Rattle.settings.specs.Places.{LEVEL, OFFSETS12, OFFSETS34, HYSTERESES, DUTIES, BOOST_HYSTERESIS, OVERRIDES, START_DUTIES, NUMBERS}
-use Rattle.settings.specs.Settings.{setting_at, range_of, is_within, plain_of, signed_of, none_or, boost_of, override_of, setup_by, rises_by, refused_settings, answered, is_setup, settings_of}
+use Rattle.settings.specs.Settings.{setting_at, range_of, is_within, plain_of, signed_of, none_or, boost_of, override_of, setup_by, rises_by, answered, is_setup, settings_of, setup_or_default}
 use Rattle.settings.specs.Ranges.{size_of, plain_most, Ranged, in_range}
 
 -- ---- one number
 
 -- a number up to 127 either way is in the range of degrees
-degrees_in_lem : (n : Number) → size_of n ≤ DEGREES_MOST → degrees_in (signed_of n) ≡ true
+degrees_in_lem : (n : Option Number) → size_of n ≤ DEGREES_MOST → degrees_in (signed_of n) ≡ true
 unfolding degrees_in signed_of size_of
-degrees_in_lem Wrong h = refl
-degrees_in_lem Dash h = refl
-degrees_in_lem (Plus v) h = le-leb v DEGREES_MOST h
-degrees_in_lem (Minus zero) h = refl
-degrees_in_lem (Minus (suc v)) h = both_true (le-leb v _ (omega arith)) refl
+degrees_in_lem None h = refl
+degrees_in_lem (Some Dash) h = refl
+degrees_in_lem (Some (Plus v)) h = le-leb v DEGREES_MOST h
+degrees_in_lem (Some (Minus zero)) h = refl
+degrees_in_lem (Some (Minus (suc v))) h = both_true (le-leb v _ (omega arith)) refl
 
 -- a number up to the largest passes the test for it
-plain_in : (most : ℕ) (n : Number) → size_of n ≤ most → leb (plain_of n) most ≡ true
+plain_in : (most : ℕ) (n : Option Number) → size_of n ≤ most → leb (plain_of n) most ≡ true
 plain_in most n h = le-leb (plain_of n) most (plain_most n h)
 
 -- so does a boost, where "-" is none
-boost_in_lem : (n : Number) → size_of n ≤ DEGREES_MOST → boost_in (boost_of signed_of n).boost ≡ true
+boost_in_lem : (n : Option Number) → size_of n ≤ DEGREES_MOST → boost_in (boost_of signed_of n) ≡ true
 unfolding boost_in none_or
-boost_in_lem Wrong h = degrees_in_lem Wrong h
-boost_in_lem Dash h = refl
-boost_in_lem (Plus v) h = degrees_in_lem (Plus v) h
-boost_in_lem (Minus v) h = degrees_in_lem (Minus v) h
+boost_in_lem None h = degrees_in_lem None h
+boost_in_lem (Some Dash) h = refl
+boost_in_lem (Some (Plus v)) h = degrees_in_lem (Some (Plus v)) h
+boost_in_lem (Some (Minus v)) h = degrees_in_lem (Some (Minus v)) h
 
 -- and an override
-override_in_lem : (n : Number) → size_of n ≤ DUTY_MOST → override_in (override_of n).duty ≡ true
+override_in_lem : (n : Option Number) → size_of n ≤ DUTY_MOST → override_in (override_of n) ≡ true
 unfolding override_in none_or
-override_in_lem Wrong h = plain_in DUTY_MOST Wrong h
-override_in_lem Dash h = refl
-override_in_lem (Plus v) h = plain_in DUTY_MOST (Plus v) h
-override_in_lem (Minus v) h = plain_in DUTY_MOST (Minus v) h
+override_in_lem None h = plain_in DUTY_MOST None h
+override_in_lem (Some Dash) h = refl
+override_in_lem (Some (Plus v)) h = plain_in DUTY_MOST (Some (Plus v)) h
+override_in_lem (Some (Minus v)) h = plain_in DUTY_MOST (Some (Minus v)) h
 
 -- ---- all of them
 
@@ -55,7 +55,7 @@ tab_pass : {A : Type 0} (p : A → Bool) (d : A) (f : ℕ → A) (count : ℕ) �
 unfolding all_pass
 tab_pass p d f count h = rw (tab_long f count) (every_of _ count (λ k l. rw (tab_at f count k d l) (h k l)))
 
-module _ (n : ℕ → Number) (w : every NUMBERS (λ k. is_within (range_of k) (n k)) ≡ true) (up : every 12 (rises_by n) ≡ true) where
+module _ (n : ℕ → Option Number) (w : every NUMBERS (λ k. is_within (range_of k) (n k)) ≡ true) (up : every 12 (rises_by n) ≡ true) where
   -- the numbers are in their ranges
   r : Ranged n
   r = in_range n w
@@ -91,8 +91,7 @@ module _ (n : ℕ → Number) (w : every NUMBERS (λ k. is_within (range_of k) (
       (plain_each START_DUTIES 2 DUTY_MOST (λ f l. r.all (START_DUTIES + f) (omega arith)))))))))
 
 -- a line that passes all has its own setup, any other the one without a setup
-answer_valid : (fits spelt within up : Bool) (x : Setup) → (within ≡ true → up ≡ true → Valid x) → Valid (answered fits spelt within up x).setup
-unfolding refused_settings
+answer_valid : (fits spelt within up : Bool) (x : Setup) → (within ≡ true → up ≡ true → Valid x) → Valid (setup_or_default (answered fits spelt within up x))
 answer_valid true true true true x v = v refl refl
 answer_valid true true true false x v = default_valid
 answer_valid true true false up x v = default_valid
@@ -100,6 +99,6 @@ answer_valid true false within up x v = default_valid
 answer_valid false spelt within up x v = default_valid
 
 -- the setup of a line is one that is taken, beside a refusal too
-pub settings_valid : (s : List ℕ) → Valid (settings_of s).setup
+pub settings_valid : (s : List ℕ) → Valid (setup_or_default (settings_of s))
 unfolding settings_of
 settings_valid s = answer_valid (is_setup s) (every NUMBERS (λ k. is_spelt (setting_at s k))) _ _ _ (setup_valid (setting_at s))

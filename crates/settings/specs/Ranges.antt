@@ -1,27 +1,27 @@
 -- The ranges of the 59 numbers, group by group, for their size without sign: none may be further below 0 than above. Assumes nothing.
-use Rattle.std.specs.Prelude.{◌≡◌, refl, true, ℕ, ◌+◌, ◌≤◌, ◌<◌, leb}
+use Rattle.std.specs.Prelude.{◌≡◌, refl, true, Option, None, Some, ℕ, ◌+◌, ◌≤◌, ◌<◌, leb}
 use Rattle.std.proofs.Common.{arith, leb-true, lt-ltb, le-ltb}
 use Rattle.laws.specs.Every.{every, every_at}
 use Rattle.text.specs.declared.Number.{Number}
-use Rattle.text.specs.declared.Number.TheVariants.{Wrong, Dash, Plus, Minus}
+use Rattle.text.specs.declared.Number.TheVariants.{Dash, Plus, Minus}
 use Rattle.state.specs.Most.{LEVEL_MOST, DEGREES_MOST, OFFSET_MOST, HYSTERESIS_MOST, DUTY_MOST, BYTE_MOST}
 use Rattle.settings.specs.Places.{LEVEL, BASES, OFFSETS12, OFFSETS34, HYSTERESES, BOOSTS, BOOST_HYSTERESIS, BINDINGS, START_COUNTS, NUMBERS}
 use Rattle.settings.specs.Settings.{up_to, range_of, is_within, plain_of}
 
 -- a number without its sign; 0 where it is none
-unfoldable pub size_of : Number → ℕ
-size_of Wrong = 0
-size_of Dash = 0
-size_of (Plus v) = v
-size_of (Minus v) = v
+unfoldable pub size_of : Option Number → ℕ
+size_of None = 0
+size_of (Some Dash) = 0
+size_of (Some (Plus v)) = v
+size_of (Some (Minus v)) = v
 
 -- a number that is not below 0 is its size
-pub plain_most : {m : ℕ} (n : Number) → size_of n ≤ m → plain_of n ≤ m
+pub plain_most : {m : ℕ} (n : Option Number) → size_of n ≤ m → plain_of n ≤ m
 unfolding plain_of size_of
-plain_most Wrong h = h
-plain_most Dash h = h
-plain_most (Plus v) h = h
-plain_most (Minus v) h = omega arith
+plain_most None h = h
+plain_most (Some Dash) h = h
+plain_most (Some (Plus v)) h = h
+plain_most (Some (Minus v)) h = omega arith
 
 -- no number may be above 256
 pub most_small : (k : ℕ) → k < NUMBERS → (range_of k).most ≤ DUTY_MOST
@@ -40,19 +40,19 @@ unfolding range_of
 offset_range k p q = rw (le-ltb k BASES (omega arith), le-ltb k OFFSETS12 p, lt-ltb k HYSTERESES q)
 
 -- a number in its range is no larger than the largest, whatever its sign
-size_most : (k : ℕ) (n : Number) → k < NUMBERS → is_within (range_of k) n ≡ true → size_of n ≤ (range_of k).most
+size_most : (k : ℕ) (n : Option Number) → k < NUMBERS → is_within (range_of k) n ≡ true → size_of n ≤ (range_of k).most
 unfolding is_within size_of
-size_most k Wrong l e = omega arith
-size_most k Dash l e = omega arith
-size_most k (Plus v) l e = leb-true v (range_of k).most e
-size_most k (Minus v) l e = omega (arith, leb-true v (range_of k).below e, below_small k l)
+size_most k None l e = omega arith
+size_most k (Some Dash) l e = omega arith
+size_most k (Some (Plus v)) l e = leb-true v (range_of k).most e
+size_most k (Some (Minus v)) l e = omega (arith, leb-true v (range_of k).below e, below_small k l)
 
 -- all numbers of the group that begins at `first` are at most `most`
 abbrev GroupMost : ℕ → ℕ → ℕ → Type 0
 GroupMost first count most = every count (λ k. leb (range_of (first + k)).most most) ≡ true
 
 -- the ranges, without signs
-pub record Ranged (n : ℕ → Number) : Type 0 where
+pub record Ranged (n : ℕ → Option Number) : Type 0 where
   pub all : (k : ℕ) → k < NUMBERS → size_of (n k) ≤ DUTY_MOST
   pub level : size_of (n LEVEL) ≤ LEVEL_MOST
   pub bases : (i : ℕ) → i < 4 → size_of (n (BASES + i)) ≤ DEGREES_MOST
@@ -64,7 +64,7 @@ pub record Ranged (n : ℕ → Number) : Type 0 where
   pub bindings : (f : ℕ) → f < 2 → size_of (n (BINDINGS + f)) ≤ BYTE_MOST
   pub start_counts_lem : (f : ℕ) → f < 2 → size_of (n (START_COUNTS + f)) ≤ BYTE_MOST
 
-module _ (n : ℕ → Number) (w : every NUMBERS (λ k. is_within (range_of k) (n k)) ≡ true) where
+module _ (n : ℕ → Option Number) (w : every NUMBERS (λ k. is_within (range_of k) (n k)) ≡ true) where
   -- number k is no larger than its largest
   size_at : (k : ℕ) → k < NUMBERS → size_of (n k) ≤ (range_of k).most
   size_at k l = size_most k (n k) l (every_at (λ k. is_within (range_of k) (n k)) NUMBERS k w l)

@@ -1,26 +1,20 @@
 // The setup that an S line carries (document 01, "Setup").
 #![tactic(auto)]
 
-ghost use Rattle.std.specs.Prelude.{◌≡◌, ◌+◌, ◌≤◌, ◌<◌, length, drop};
+ghost use Rattle.std.specs.Prelude.{◌≡◌, ◌+◌, ◌≤◌, ◌<◌, false, Option, None, Some, MatchOption, slice_get, length, drop};
 ghost use Rattle.laws.specs.Tab.{tab};
 ghost use Rattle.laws.specs.Every.{every};
 ghost use Rattle.text.specs.Fields.{field_at};
-ghost use Rattle.text.specs.Number.{decimal_of, saturated, is_spelt};
-ghost use Rattle.state.specs.Most.{DUTY_MOST};
-ghost use Rattle.settings.specs.Places.{BASES, BOOSTS, OVERRIDES, NUMBERS};
-ghost use Rattle.settings.specs.Settings.{up_to, degrees, or_none, range_of, is_within, plain_of, boost_of, override_of, setup_by, rises_by, refused_settings, is_setup, settings_of};
-ghost use Rattle.settings.specs.Entries.{entries_of, entry_in, held_byte, held_degrees, settings_from};
+ghost use Rattle.text.specs.Number.{decimal_of, saturated};
+ghost use Rattle.settings.specs.Places.{NUMBERS};
+ghost use Rattle.settings.specs.Settings.{up_to, degrees, or_none, range_of, is_within, plain_of, none_or, boost_of, override_of, setup_by, rises_by, is_setup, settings_of};
+ghost use Rattle.settings.specs.Entries.{all_spelt, AreEntries, HoldsAs, held_byte, held_degrees};
 
-use state::{Boost, FanOverride, Override, SETUP_OUT_OF_RANGE, Setup, ZoneBoost, most};
+use state::{Refusal, Setup, most};
+use std::array;
 use text::Number;
 
 mod places;
-
-// One of the 59 numbers, as it is spelled.
-#[derive(Clone, Copy)]
-pub struct Entry {
-    pub number: Number,
-}
 
 // What a number may be.
 #[derive(Clone, Copy)]
@@ -33,387 +27,213 @@ pub struct Range {
     pub none: bool,
 }
 
-// The refusal of an S line by itself, or 0, and its setup; of a refused line that without a setup.
-#[derive(Clone, Copy)]
-pub struct Settings {
-    pub refusal: u8,
-    pub setup: Setup,
-}
+impl Range {
+    // 0 to the largest.
+    fn up_to(most: u16) -> Range
+        ensures { result ≡ up_to most }
+    {
+        Range {
+            most,
+            below: 0,
+            none: false,
+        }
+    }
 
-// The refusal of a wrong letter, field count or spelling.
-pub const SPELLING: u8 = 4;
+    // As far below 0 as above.
+    fn degrees() -> Range
+        ensures { result ≡ degrees }
+    {
+        Range {
+            most: most::DEGREES as u16,
+            below: most::DEGREES as u16,
+            none: false,
+        }
+    }
+
+    fn or_none(self) -> Range
+        ensures { result ≡ or_none self }
+    {
+        Range { none: true, ..self }
+    }
+
+    #[tactic(auto, unfolding(crate::specs::Settings::is_within))]
+    fn holds(self, n: Number) -> bool
+        ensures { result ≡ is_within self (Some n) }
+    {
+        match n {
+            Number::Dash => self.none,
+            Number::Plus(v) => v <= self.most,
+            Number::Minus(v) => v <= self.below,
+        }
+    }
+}
 
 // ---- the numbers as they are spelled
 
-// The number in the field at a place.
-fn number_from(line: &[u8], at: usize) -> Number
+// The number in the field at a place; None where it is spelled wrong.
+fn number_from(line: &[u8], at: usize) -> Option<Number>
     requires { at ≤ length line.now }
     ensures { result ≡ saturated (decimal_of (field_at (drop at line.now) 0)) }
 {
-    let t = &line[at..];
-    let w = text::width(t);
-    text::decimal(&t[..w])
+    text::decimal(text::field(&line[at..], 0))
 }
 
-// The 59 numbers behind the letter, in one walk along the line.
-fn entries_of(line: &[u8]) -> [Entry; places::NUMBERS]
-    ensures { result ≡ entries_of line.now }
+// The 59 numbers behind the letter, in one walk along the line; None where one is spelled wrong.
+fn entries_of(line: &[u8]) -> Option<[Number; places::NUMBERS]>
+    ensures { MatchOption result (all_spelt line.now ≡ false) (AreEntries line.now) }
 {
-    let blank = Entry {
-        number: Number::Wrong,
-    };
-    let mut entries = [blank; places::NUMBERS];
-    let mut at = text::next_field(line, 0);
-    let mut k: usize = 0;
-    while k < places::NUMBERS {
-        let entry = Entry {
-            number: number_from(line, at),
-        };
-        entries[k] = entry;
+    let mut entries = [Number::Dash; places::NUMBERS];
+    let mut at = 0;
+    for entry in entries.iter_mut() {
         at = text::next_field(line, at);
-        k += 1;
+        *entry = number_from(line, at)?;
     }
-    entries
+    Some(entries)
 }
 
-// ---- spelling, ranges, duties that never fall
-
-// 0 to the largest.
-fn up_to(most: u8) -> Range
-    ensures { result ≡ up_to most }
-{
-    Range {
-        most: most as u16,
-        below: 0,
-        none: false,
-    }
-}
-
-fn duty() -> Range
-    ensures { result ≡ up_to DUTY_MOST }
-{
-    Range {
-        most: most::DUTY,
-        below: 0,
-        none: false,
-    }
-}
-
-fn degrees() -> Range
-    ensures { result ≡ degrees }
-{
-    Range {
-        most: most::DEGREES as u16,
-        below: most::DEGREES as u16,
-        none: false,
-    }
-}
-
-fn or_none(range: Range) -> Range
-    ensures { result ≡ or_none range }
-{
-    let mut next = range;
-    next.none = true;
-    next
-}
+// ---- ranges, duties that never fall
 
 // What number k may be.
+#[tactic(auto, unfolding(crate::specs::Settings::range_of))]
 fn range_of(k: usize) -> Range
     ensures { result ≡ range_of k }
 {
     match k {
-        places::LEVEL..places::BASES => up_to(most::LEVEL),
-        places::BASES..places::OFFSETS12 => degrees(),
-        places::OFFSETS12..places::HYSTERESES => up_to(most::OFFSET),
-        places::HYSTERESES..places::DUTIES => up_to(most::HYSTERESIS),
-        places::DUTIES..places::BOOSTS => duty(),
-        places::BOOSTS..places::BOOST_HYSTERESIS => or_none(degrees()),
-        places::BOOST_HYSTERESIS..places::BINDINGS => up_to(most::HYSTERESIS),
-        places::BINDINGS..places::OVERRIDES => up_to(most::BYTE),
-        places::OVERRIDES..places::START_DUTIES => or_none(duty()),
-        places::START_DUTIES..places::START_COUNTS => duty(),
-        places::START_COUNTS.. => up_to(most::BYTE),
+        places::LEVEL..places::BASES => Range::up_to(most::LEVEL as u16),
+        places::BASES..places::OFFSETS12 => Range::degrees(),
+        places::OFFSETS12..places::HYSTERESES => Range::up_to(most::OFFSET as u16),
+        places::HYSTERESES..places::DUTIES => Range::up_to(most::HYSTERESIS as u16),
+        places::DUTIES..places::BOOSTS => Range::up_to(most::DUTY),
+        places::BOOSTS..places::BOOST_HYSTERESIS => Range::degrees().or_none(),
+        places::BOOST_HYSTERESIS..places::BINDINGS => Range::up_to(most::HYSTERESIS as u16),
+        places::BINDINGS..places::OVERRIDES => Range::up_to(most::BYTE as u16),
+        places::OVERRIDES..places::START_DUTIES => Range::up_to(most::DUTY).or_none(),
+        places::START_DUTIES..places::START_COUNTS => Range::up_to(most::DUTY),
+        places::START_COUNTS.. => Range::up_to(most::BYTE as u16),
     }
 }
 
-fn is_within(range: Range, n: Number) -> bool
-    ensures { result ≡ is_within range n }
+fn all_within(entries: &[Number; places::NUMBERS]) -> bool
+    ensures { result ≡ every NUMBERS (λ k. is_within (range_of k) (slice_get entries.now k)) }
 {
-    match n {
-        Number::Wrong => false,
-        Number::Dash => range.none,
-        Number::Plus(v) => v <= range.most,
-        Number::Minus(v) => v <= range.below,
-    }
-}
-
-fn all_spelt(entries: [Entry; places::NUMBERS]) -> bool
-    ensures { result ≡ every NUMBERS (λ k. is_spelt (entry_in entries k)) }
-{
-    let mut k: usize = 0;
-    while k < places::NUMBERS {
-        let entry = entries[k];
-        let number = entry.number;
-        if text::is_spelt(number) {
-            k += 1;
-        } else {
-            return false;
-        }
-    }
-    true
-}
-
-fn all_within(entries: [Entry; places::NUMBERS]) -> bool
-    ensures { result ≡ every NUMBERS (λ k. is_within (range_of k) (entry_in entries k)) }
-{
-    let mut k: usize = 0;
-    while k < places::NUMBERS {
-        let entry = entries[k];
-        let number = entry.number;
-        if is_within(range_of(k), number) {
-            k += 1;
-        } else {
-            return false;
-        }
-    }
-    true
+    entries
+        .iter()
+        .enumerate()
+        .all(|(k, n)| range_of(k).holds(*n))
 }
 
 // A number that is not below 0; 0 where it is none.
+#[tactic(auto, unfolding(crate::specs::Settings::plain_of))]
 fn word_of(n: Number) -> u16
-    ensures { result ≡ plain_of n }
+    ensures { result ≡ plain_of (Some n) }
 {
-    match n {
-        Number::Wrong => 0,
-        Number::Dash => 0,
-        Number::Plus(v) => v,
-        Number::Minus(_) => 0,
-    }
+    if let Number::Plus(v) = n { v } else { 0 }
 }
 
-// Whether duty k + 1 is not below duty k.
-fn rises_in(entries: [Entry; places::NUMBERS], k: usize) -> bool
-    requires { k < 12 }
-    ensures { result ≡ rises_by (entry_in entries) k }
+// Whether each duty is not below the one before.
+fn all_rise(entries: &[Number; places::NUMBERS]) -> bool
+    ensures { result ≡ every 12 (rises_by (slice_get entries.now)) }
 {
-    let lower = entries[places::DUTIES + k];
-    let upper = entries[places::DUTIES + k + 1];
-    let least = lower.number;
-    let most = upper.number;
-    word_of(least) <= word_of(most)
-}
-
-fn all_rise(entries: [Entry; places::NUMBERS]) -> bool
-    ensures { result ≡ every 12 (rises_by (entry_in entries)) }
-{
-    let mut k: usize = 0;
-    while k < 12 {
-        if rises_in(entries, k) {
-            k += 1;
-        } else {
-            return false;
-        }
-    }
-    true
+    entries[places::DUTIES..places::BOOSTS]
+        .windows(2)
+        .all(|w| word_of(w[0]) <= word_of(w[1]))
 }
 
 // ---- the setup
 
+#[tactic(auto, unfolding(crate::specs::Entries::held_byte))]
 fn held_byte(n: Number) -> u8
-    ensures { result ≡ held_byte n }
+    ensures { result ≡ held_byte (Some n) }
 {
     (word_of(n) % 256) as u8
 }
 
+#[tactic(auto, unfolding(crate::specs::Entries::held_degrees))]
 fn held_degrees(n: Number) -> i8
-    ensures { result ≡ held_degrees n }
+    ensures { result ≡ held_degrees (Some n) }
 {
     match n {
-        Number::Wrong => 0,
         Number::Dash => 0,
         Number::Plus(v) => (v % 128) as i8,
-        Number::Minus(v) => 0 - (v % 128) as i8,
+        Number::Minus(v) => -((v % 128) as i8),
     }
 }
 
-fn boost_from(n: Number) -> ZoneBoost
-    ensures { result ≡ boost_of held_degrees n }
+// None for "-", else the number as it is held.
+#[tactic(auto, unfolding(crate::specs::Settings::none_or))]
+fn none_or<T, F: FnOnce(Number) -> T>(n: Number, held: F) -> Option<T>
+    requires { F.pre held n }
+    ensures { (f : Option Number → T) → HoldsAs (F.post held) f → result ≡ none_or None (Some (f (Some n))) (Some n) }
 {
-    let Number::Dash = n else {
-        return ZoneBoost {
-            boost: Boost::At(held_degrees(n)),
-        };
-    };
-    ZoneBoost { boost: Boost::Off }
-}
-
-fn override_from(n: Number) -> FanOverride
-    ensures { result ≡ override_of n }
-{
-    let Number::Dash = n else {
-        return FanOverride {
-            duty: Override::At(word_of(n)),
-        };
-    };
-    FanOverride {
-        duty: Override::Off,
+    match n {
+        Number::Dash => None,
+        _ => Some(held(n)),
     }
 }
 
-// The numbers from the first on, as many as bytes are lent.
-fn fill_bytes(entries: [Entry; places::NUMBERS], first: usize, bytes: &mut [u8])
-    requires { first + length bytes.old ≤ NUMBERS }
-    ensures { bytes.new ≡ tab (λ k. held_byte (entry_in entries (first + k))) (length bytes.old) }
+fn boost_from(n: Number) -> Option<i8>
+    ensures { result ≡ boost_of held_degrees (Some n) }
 {
-    let mut k: usize = 0;
-    while k < bytes.len() {
-        let entry = entries[first + k];
-        let number = entry.number;
-        bytes[k] = held_byte(number);
-        k += 1;
-    }
+    none_or(n, held_degrees)
 }
 
-fn fill_words(entries: [Entry; places::NUMBERS], first: usize, words: &mut [u16])
-    requires { first + length words.old ≤ NUMBERS }
-    ensures { words.new ≡ tab (λ k. plain_of (entry_in entries (first + k))) (length words.old) }
+fn override_from(n: Number) -> Option<u16>
+    ensures { result ≡ override_of (Some n) }
 {
-    let mut k: usize = 0;
-    while k < words.len() {
-        let entry = entries[first + k];
-        let number = entry.number;
-        words[k] = word_of(number);
-        k += 1;
-    }
+    none_or(n, word_of)
 }
 
-fn bases_from(entries: [Entry; places::NUMBERS]) -> [i8; 4]
-    ensures { result ≡ tab (λ i. held_degrees (entry_in entries (BASES + i))) 4 }
+// The N numbers from the first on, as they are held.
+fn group<T, const N: usize, F: Fn(Number) -> T>(
+    entries: &[Number; places::NUMBERS],
+    first: usize,
+    held: F,
+) -> [T; N]
+    requires place { first + N ≤ NUMBERS }
+    requires callable { F.IsAlwaysCallable held }
+    ensures { (f : Option Number → T) → HoldsAs (F.post held) f → result ≡ tab (λ k. f (slice_get entries.now (first + k))) N }
 {
-    let mut bases = [0i8; 4];
-    let mut k: usize = 0;
-    while k < 4 {
-        let entry = entries[places::BASES + k];
-        let number = entry.number;
-        bases[k] = held_degrees(number);
-        k += 1;
-    }
-    bases
+    array::from_fn(|k| held(entries[first + k]))
 }
 
-fn boosts_from(entries: [Entry; places::NUMBERS]) -> [ZoneBoost; 6]
-    ensures { result ≡ tab (λ i. boost_of held_degrees (entry_in entries (BOOSTS + i))) 6 }
+fn setup_from(entries: &[Number; places::NUMBERS]) -> Setup
+    ensures { result ≡ setup_by held_byte held_degrees (slice_get entries.now) }
 {
-    let off = ZoneBoost { boost: Boost::Off };
-    let mut boosts = [off; 6];
-    let mut k: usize = 0;
-    while k < 6 {
-        let entry = entries[places::BOOSTS + k];
-        let number = entry.number;
-        let boost = boost_from(number);
-        boosts[k] = boost;
-        k += 1;
-    }
-    boosts
-}
-
-fn overrides_from(entries: [Entry; places::NUMBERS]) -> [FanOverride; 2]
-    ensures { result ≡ tab (λ f. override_of (entry_in entries (OVERRIDES + f))) 2 }
-{
-    let first = entries[places::OVERRIDES];
-    let second = entries[places::OVERRIDES + 1];
-    let number1 = first.number;
-    let number2 = second.number;
-    let override1 = override_from(number1);
-    let override2 = override_from(number2);
-    [override1, override2]
-}
-
-fn setup_from(entries: [Entry; places::NUMBERS]) -> Setup
-    ensures { result ≡ setup_by held_byte held_degrees (entry_in entries) }
-{
-    let first = entries[places::LEVEL];
-    let level = first.number;
-    let after_boosts = entries[places::BOOST_HYSTERESIS];
-    let boost_hysteresis = after_boosts.number;
-    let bases = bases_from(entries);
-    let mut offsets12 = [0u8; 12];
-    fill_bytes(entries, places::OFFSETS12, &mut offsets12);
-    let mut offsets34 = [0u8; 12];
-    fill_bytes(entries, places::OFFSETS34, &mut offsets34);
-    let mut hystereses = [0u8; 2];
-    fill_bytes(entries, places::HYSTERESES, &mut hystereses);
-    let mut duties = [0u16; 13];
-    fill_words(entries, places::DUTIES, &mut duties);
-    let boosts = boosts_from(entries);
-    let mut bindings = [0u8; 2];
-    fill_bytes(entries, places::BINDINGS, &mut bindings);
-    let overrides = overrides_from(entries);
-    let mut start_duties = [0u16; 2];
-    fill_words(entries, places::START_DUTIES, &mut start_duties);
-    let mut start_counts = [0u8; 2];
-    fill_bytes(entries, places::START_COUNTS, &mut start_counts);
     Setup {
-        level: held_byte(level),
-        bases: bases,
-        offsets12: offsets12,
-        offsets34: offsets34,
-        hystereses: hystereses,
-        duties: duties,
-        boosts: boosts,
-        boost_hysteresis: held_byte(boost_hysteresis),
-        bindings: bindings,
-        overrides: overrides,
-        start_duties: start_duties,
-        start_counts: start_counts,
-    }
-}
-
-fn refuse(refusal: u8) -> Settings
-    ensures { result ≡ refused_settings refusal }
-{
-    Settings {
-        refusal: refusal,
-        setup: state::default_setup(),
+        level: held_byte(entries[places::LEVEL]),
+        bases: group(entries, places::BASES, held_degrees),
+        offsets12: group(entries, places::OFFSETS12, held_byte),
+        offsets34: group(entries, places::OFFSETS34, held_byte),
+        hystereses: group(entries, places::HYSTERESES, held_byte),
+        duties: group(entries, places::DUTIES, word_of),
+        boosts: group(entries, places::BOOSTS, boost_from),
+        boost_hysteresis: held_byte(entries[places::BOOST_HYSTERESIS]),
+        bindings: group(entries, places::BINDINGS, held_byte),
+        overrides: group(entries, places::OVERRIDES, override_from),
+        start_duties: group(entries, places::START_DUTIES, word_of),
+        start_counts: group(entries, places::START_COUNTS, held_byte),
     }
 }
 
 // Whether a line has the letter S and 59 fields behind it.
+#[tactic(auto, unfolding(crate::specs::Settings::is_setup))]
 fn is_setup(line: &[u8]) -> bool
     ensures { result ≡ is_setup line.now }
 {
-    if text::width(line) == 1 {
-        if line[0] == b'S' {
-            return text::count_fields(line) == places::NUMBERS + 1;
-        }
-    }
-    false
+    text::width(line) == 1 && line[0] == b'S' && text::count_fields(line) == places::NUMBERS + 1
 }
 
-// The setup of these numbers, or its refusal: spelling first, then ranges, then duties that fall.
-fn settings_from(entries: [Entry; places::NUMBERS]) -> Settings
-    ensures { result ≡ settings_from entries }
-{
-    if all_spelt(entries) {
-        if all_within(entries) {
-            if all_rise(entries) {
-                return Settings {
-                    refusal: 0,
-                    setup: setup_from(entries),
-                };
-            }
-        }
-        return refuse(SETUP_OUT_OF_RANGE);
-    }
-    refuse(SPELLING)
-}
-
-// The setup of an S line, or its refusal.
-pub fn settings_of(line: &[u8]) -> Settings
+// The setup of an S line, or its refusal: spelling first, then ranges, then duties that fall.
+pub fn settings_of(line: &[u8]) -> Result<Setup, Refusal>
     ensures { result ≡ settings_of line.now }
 {
-    if is_setup(line) {
-        return settings_from(entries_of(line));
+    if !is_setup(line) {
+        return Err(Refusal::Spelling);
     }
-    refuse(SPELLING)
+    let entries = entries_of(line).ok_or(Refusal::Spelling)?;
+    if all_within(&entries) && all_rise(&entries) {
+        Ok(setup_from(&entries))
+    } else {
+        Err(Refusal::Setup)
+    }
 }

@@ -1,10 +1,9 @@
 -- Document 02, Q-2, "Voltage hysteresis as the chip has it", said of lines of text, an S line too, and of what they print. Channels count
 -- from 0 here, and from 1 in V lines. Assumes nothing.
-use Rattle.std.specs.Prelude.{◌≡◌, true, false, List, ℕ, suc}
+use Rattle.std.specs.Prelude.{◌≡◌, true, false, List, ℕ, suc, Some, Result, Ok, Err}
 use Rattle.std.proofs.Math.Path.{refl, ap}
 use Rattle.std.proofs.Common.{◌∙◌}
 use Rattle.masks.specs.Masks.{volt_masked}
-use Rattle.state.specs.declared.Count.TheVariants.{Taken}
 use Rattle.state.specs.Parts.{in_error}
 use Rattle.sense.specs.Errors.{low_limit, high_limit, is_outside}
 use Rattle.event.specs.declared.Event.TheVariants.{Voltage}
@@ -20,6 +19,8 @@ use Rattle.theorems.specs.VoltReadings.{GivesCount, outside, Ends, within as eve
 use Rattle.spoken.specs.TakenLine.{given_by}
 use Rattle.spoken.specs.SaidLines.{asks_no_setup, lines_sized}
 use Rattle.spoken.specs.ReadLines.{bit_printed}
+use Rattle.state.specs.declared.Refusal.{Refusal}
+use Rattle.event.specs.declared.Event.{Event}
 use Rattle.spoken.specs.HeldLines.{CountLine, EndsLine, within, NoneEndLines, more, none, PrintsError}
 
 -- ---- lines
@@ -30,7 +31,7 @@ record Erring (i : ℕ) (s : Session) : Type 0 where
   sized : Sized s.chip
   erring : in_error s.chip i ≡ true
 
-count_event : (i n : ℕ) (s : Session) (l : List ℕ) → CountLine i n s l → GivesCount i (Taken n) (given_by l (Voltage (suc i) (Taken n)))
+count_event : (i n : ℕ) (s : Session) (l : List ℕ) → CountLine i n s l → GivesCount i (Some n) (given_by l (Voltage (suc i) (Some n)))
 count_event i n s l a = record { event = refl; taken = asks_taken s.begun l _ a }
 
 module _ (i : ℕ) (s : Session) (l : List ℕ) where
@@ -39,14 +40,14 @@ module _ (i : ℕ) (s : Session) (l : List ℕ) where
   unfolding judged_line judged_by event_line begun_line
   line_starts n z a o = rw a (record { begun = refl; sized = step_sized z _ (data_of l); erring = started i s.chip z _ (outside n (count_event i n s l a) o) })
 
-  asked_held : (a : Asked) → asked_text s.begun l ≡ a → (EndsLine i s l → ⊥) → Erring i s → Erring i (judged_by s l a).session
+  asked_held : (a : Result Asked Refusal) → asked_text s.begun l ≡ a → (EndsLine i s l → ⊥) → Erring i s → Erring i (judged_by s l a).session
   unfolding judged_by refused_line event_line begun_line
-  asked_held asked.Setup q n u = absurd (asks_no_setup s u.begun l q)
-  asked_held (asked.Refused r) q n u = u
-  asked_held (asked.Event e) q n u = record { begun = refl; sized = step_sized u.sized e (data_of l); erring = held i s.chip u.sized (given_by l e) ends u.erring }
+  asked_held (Ok asked.Setup) q n u = absurd (asks_no_setup s u.begun l q)
+  asked_held (Err r) q n u = u
+  asked_held (Ok (asked.Event e)) q n u = record { begun = refl; sized = step_sized u.sized e (data_of l); erring = held i s.chip u.sized (given_by l e) ends u.erring }
     where
       ends : Ends i s.chip (given_by l e) → ⊥
-      ends (event-within m r b) = n (within m (q ∙ ap asked.Event r.event) b)
+      ends (event-within m r b) = n (within m (q ∙ ap (λ (e : Event). Ok (asked.Event e)) r.event) b)
 
   -- a line that does not end the error leaves it
   line_held : (EndsLine i s l → ⊥) → Erring i s → Erring i (judged_line s l).session
@@ -57,7 +58,7 @@ module _ (i : ℕ) (s : Session) (l : List ℕ) where
   set_printed : (n : ℕ) → CountLine i n s l → Sized s.chip → volt_masked s.chip.registers i ≡ false → Erring i (judged_line s l).session → PrintsError i (judged_line s l).session
   unfolding judged_line judged_by event_line begun_line
   set_printed n a z m u =
-      let shows = reading_sets i s.chip z (given_by l (Voltage (suc i) (Taken n))) n (count_event i n s l a) m (rw a at u.erring) in
+      let shows = reading_sets i s.chip z (given_by l (Voltage (suc i) (Some n))) n (count_event i n s l a) m (rw a at u.erring) in
       rw a (record { bmc = bit_printed _ _ _ shows.in_bmc.0; host = bit_printed _ _ _ shows.in_host.0 })
 
 -- so do lines, one after the other

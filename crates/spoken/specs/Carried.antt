@@ -1,5 +1,5 @@
 -- The bytes that a line carries: they make no difference to an event that is no block write. Assumes nothing.
-use Rattle.std.specs.Prelude.{◌≡◌, List, [], ℕ}
+use Rattle.std.specs.Prelude.{◌≡◌, List, [], ℕ, Ok}
 use Rattle.std.proofs.Math.Path.{ap}
 use Rattle.std.proofs.Common.{◌∙◌}
 use Rattle.state.specs.declared.Chip.{Chip}
@@ -19,6 +19,6 @@ module _ (l : List ℕ) (e : Event) (none : (address command : ℕ) → e ≡ Wr
   event_alone c = step_alone_lem c e (data_of l) (data_short l) none
 
   -- so a line that asks for it comes to what the event alone does
-  pub line_alone : (s : Session) → asked_text s.begun l ≡ asked.Event e → judged_line s l ≡ event_line s.chip e []
+  pub line_alone : (s : Session) → asked_text s.begun l ≡ Ok (asked.Event e) → judged_line s l ≡ event_line s.chip e []
   unfolding judged_line judged_by event_line
   line_alone s a = ap (judged_by s l) a ∙ rw (event_alone s.chip)

@@ -1,7 +1,7 @@
 -- Texts that meet all that demand 3 asks of lines: an S line of 59 zeros, "T\t1\t70", "P\t2C\tF6\t04\t00\t00\t00\t00", "G\t2C\tF6" and "K",
 -- beside the same lines but "U\t1\t561", which is hotter by one sixteenth, or "T\t1\t-". With "U\t1\t560" the text is the same. Assumes
 -- nothing.
-use Rattle.std.specs.Prelude.{◌≡◌, refl, List, [], ◌∷◌, true, ℕ, pos}
+use Rattle.std.specs.Prelude.{◌≡◌, refl, List, [], ◌∷◌, true, ℕ, pos, None}
 use Rattle.std.proofs.Common.{arith}
 use Rattle.laws.specs.Every.{every}
 use Rattle.laws.specs.Tab.{tab}
@@ -18,7 +18,7 @@ use Rattle.parse.specs.Parse.{letter_of, number_at, index_of, spelled_stated, pa
 use Rattle.settings.specs.Settings.{setting_at, range_of, is_within, plain_of, rises_by, is_setup, settings_of}
 use Rattle.settings.specs.Cases.{zeros}
 use Rattle.line.specs.declared.Session.{Session}
-use Rattle.line.specs.Line.{start_session, asked_event, asked_settings, asked_other, asked_by, asked_text, begun_line, setup_line, event_line, judged_by, judged_line}
+use Rattle.line.specs.Line.{start_session, asked_event, asked_settings, asked_other, asked_by, asked_text, begun_line, setup_line, event_line, judged_by, judged_line, asked_unless}
 use Rattle.spoken.specs.Lines.{AllTaken, AllLinesAlike, same, hotter, none, more}
 use Rattle.spoken.specs.StatedLines.{States, reading_line, stated_line}
 use Rattle.spoken.specs.TickLine.{K, tick_line}
@@ -55,41 +55,41 @@ text_of l = setup ∷ l ∷ write ∷ read ∷ K ∷ []
 
 -- of zone 1a
 pub warm_says : States warm 1 (Halves (pos 70))
-unfolding event_by letter_of fields_of first_field other_fields field_at temperature_line pair_of spelled_stated number_at index_of decimal_of plus_of minus_of run_of all_digits is_digit value_of is_spelt
+unfolding event_by letter_of fields_of first_field other_fields field_at pair_of spelled_stated number_at index_of decimal_of plus_of minus_of run_of all_digits is_digit value_of is_spelt
 warm_says = record { short = omega arith; says = refl }
 
 pub equal_says : States equal 1 (Sixteenths (pos 560))
-unfolding event_by letter_of fields_of first_field other_fields field_at temperature_line pair_of spelled_stated number_at index_of decimal_of plus_of minus_of run_of all_digits is_digit value_of is_spelt
+unfolding event_by letter_of fields_of first_field other_fields field_at pair_of spelled_stated number_at index_of decimal_of plus_of minus_of run_of all_digits is_digit value_of is_spelt
 equal_says = record { short = omega arith; says = refl }
 
 warmer_says : States warmer 1 (Sixteenths (pos 561))
-unfolding event_by letter_of fields_of first_field other_fields field_at temperature_line pair_of spelled_stated number_at index_of decimal_of plus_of minus_of run_of all_digits is_digit value_of is_spelt
+unfolding event_by letter_of fields_of first_field other_fields field_at pair_of spelled_stated number_at index_of decimal_of plus_of minus_of run_of all_digits is_digit value_of is_spelt
 warmer_says = record { short = omega arith; says = refl }
 
 lost_says : States lost 1 Missing
-unfolding event_by letter_of fields_of first_field other_fields field_at temperature_line pair_of spelled_stated number_at index_of decimal_of plus_of minus_of run_of all_digits is_digit value_of is_spelt
+unfolding event_by letter_of fields_of first_field other_fields field_at pair_of spelled_stated number_at index_of decimal_of plus_of minus_of run_of all_digits is_digit value_of is_spelt
 lost_says = record { short = omega arith; says = refl }
 
 -- ---- they are taken
 
 -- a temperature in range
-stated_taken : {l : List ℕ} {q : Stated} → States l 1 q → reading_in (stated_reading q) ≡ true → (s : Session) → (judged_line s l).refusal ≡ 0
+stated_taken : {l : List ℕ} {q : Stated} → States l 1 q → reading_in (stated_reading q) ≡ true → (s : Session) → (judged_line s l).refusal ≡ None
 unfolding reading_line begun_line index_in
 stated_taken t i s = rw (stated_line s t, i)
 
-setup_taken : (judged_line start_session setup).refusal ≡ 0
+setup_taken : (judged_line start_session setup).refusal ≡ None
 unfolding start_session judged_line judged_by asked_text asked_by asked_other asked_settings event_by setup_line begun_line settings_of is_setup setting_at every range_of is_within rises_by plain_of letter_of fields_of first_field other_fields field_at decimal_of plus_of minus_of run_of all_digits is_digit value_of is_spelt
 setup_taken = refl
 
-write_taken : (s : Session) → (judged_line s write).refusal ≡ 0
-unfolding judged_line judged_by asked_text asked_by asked_event event_line begun_line refusal_of event_in event_by letter_of fields_of first_field other_fields field_at write_block_line write_block_by is_data three_of three_by two_of two_by hexes_spelt every is_hex hex_byte_of nibble_of data_of data_by hexes_of tab hex_value
+write_taken : (s : Session) → (judged_line s write).refusal ≡ None
+unfolding judged_line judged_by asked_text asked_by asked_event asked_unless event_line begun_line refusal_of event_in event_by letter_of fields_of first_field other_fields field_at write_block_line is_data three_of two_of hexes_spelt every is_hex hex_byte_of nibble_of data_of hexes_of tab hex_value
 write_taken s = refl
 
-read_taken : (s : Session) → (judged_line s read).refusal ≡ 0
-unfolding judged_line judged_by asked_text asked_by asked_event event_line begun_line refusal_of event_in event_by letter_of fields_of first_field other_fields field_at read_block_line read_block_by two_of two_by hex_byte_of nibble_of data_of
+read_taken : (s : Session) → (judged_line s read).refusal ≡ None
+unfolding judged_line judged_by asked_text asked_by asked_event asked_unless event_line begun_line refusal_of event_in event_by letter_of fields_of first_field other_fields field_at read_block_line two_of hex_byte_of nibble_of data_of
 read_taken s = refl
 
-tick_taken : (s : Session) → (judged_line s K).refusal ≡ 0
+tick_taken : (s : Session) → (judged_line s K).refusal ≡ None
 unfolding event_line begun_line
 tick_taken s = rw (tick_line s)
 

@@ -1,8 +1,7 @@
 -- Document 02, Q-2, "Voltage hysteresis as the chip has it", said of lines of text, an S line too, and of what they print. Channels count
 -- from 0 here, and from 1 in V lines. Assumes nothing.
-use Rattle.std.specs.Prelude.{◌≡◌, true, List, [], ◌∷◌, ℕ, suc, ◌+◌, ◌/◌, ◌%◌, ◌^◌}
+use Rattle.std.specs.Prelude.{◌≡◌, true, List, [], ◌∷◌, ℕ, suc, ◌+◌, ◌/◌, ◌%◌, ◌^◌, Some, Ok}
 use Rattle.map.specs.Names.{B_ERROR_STATUS_2, H_ERROR_STATUS_2}
-use Rattle.state.specs.declared.Count.TheVariants.{Taken}
 use Rattle.sense.specs.Errors.{low_limit, high_limit}
 use Rattle.sense.specs.Hysteresis.{hysteresis_of, ends_error}
 use Rattle.event.specs.declared.Event.TheVariants.{Voltage}
@@ -15,7 +14,7 @@ use Rattle.spoken.specs.ReadLines.{PrintsBit}
 
 -- a line that gives channel i a count, and is not refused
 abbrev pub CountLine : ℕ → ℕ → Session → List ℕ → Type 0
-CountLine i n s l = asked_text s.begun l ≡ asked.Event (Voltage (suc i) (Taken n))
+CountLine i n s l = asked_text s.begun l ≡ Ok (asked.Event (Voltage (suc i) (Some n)))
 
 -- a V line that is "at least low plus VH and at most high minus VH"
 pub data EndsLine (i : ℕ) (s : Session) (l : List ℕ) : Type 0 where

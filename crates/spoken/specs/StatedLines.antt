@@ -1,6 +1,6 @@
 -- Document 02, Q-7, of lines given to the chip: T and U lines are read "by the temperature they state". Two that state the same for a zone
 -- come to the same in any session, taken or refused, and so do texts of them; so T h is U 8h. Assumes nothing.
-use Rattle.std.specs.Prelude.{◌≡◌, Bool, List, [], ◌∷◌, ◌++◌, ℕ, ◌+◌, ◌-◌, ◌≤◌, ℤ, pos, ◌*ℤ◌, length}
+use Rattle.std.specs.Prelude.{◌≡◌, Bool, List, [], ◌∷◌, ◌++◌, ℕ, ◌+◌, ◌-◌, ◌≤◌, ℤ, pos, ◌*ℤ◌, length, Some}
 use Rattle.std.proofs.Math.Path.{refl, ap}
 use Rattle.std.proofs.Common.{sym, ◌∙◌, le-ltb}
 use Rattle.std.proofs.Math.Bool.{true, false}
@@ -16,22 +16,23 @@ use Rattle.event.specs.declared.Answer.TheVariants.{Nothing}
 use Rattle.event.specs.Event.{index_in, event_in, quiet_step, taken_step}
 use Rattle.event.specs.Stated.{reading_in, stated_range}
 use Rattle.event.specs.Refusal.{in_number, out_number, step_taken}
-use Rattle.parse.specs.declared.Parsed.TheVariants.{Fine}
 use Rattle.parse.specs.Parse.{event_of, data_of}
 use Rattle.parse.specs.Data.{data_short}
 use Rattle.line.specs.declared.Session.{Session}
-use Rattle.line.specs.Line.{Judged, asked_event, asked_by, asked_text, refused_line, begun_line, event_line, judged_by, judged_line}
+use Rattle.line.specs.Line.{Judged, asked_event, asked_by, asked_text, refused_line, begun_line, event_line, judged_by, judged_line, asked_unless}
+use Rattle.state.specs.declared.Refusal.{Refusal}
+use Rattle.state.specs.declared.Refusal.TheVariants as refusal
 use Rattle.line.specs.Session.{printed_by, printed_from}
 
 -- what a session makes of a reading for a zone: it is taken, or refused with 2
 unfoldable pub reading_line : Session → ℕ → Reading → Judged
 reading_line s zone r =
-    pick (both (index_in 5 zone) (reading_in r)) (begun_line (took_temperature s.chip (zone - 1) r) Nothing) (refused_line s 2)
+    pick (both (index_in 5 zone) (reading_in r)) (begun_line (took_temperature s.chip (zone - 1) r) Nothing) (refused_line s refusal.Event)
 
 -- a line that is not too long and says a T or a U
 pub record States (l : List ℕ) (zone : ℕ) (q : Stated) : Type 0 where
   pub short : length l ≤ 512
-  pub says : event_of l ≡ Fine (Temperature zone q)
+  pub says : event_of l ≡ Some (Temperature zone q)
 
 module _ (s : Session) {l : List ℕ} {zone : ℕ} {q : Stated} (t : States l zone q) where
   abbrev e : Event
@@ -44,14 +45,14 @@ module _ (s : Session) {l : List ℕ} {zone : ℕ} {q : Stated} (t : States l zo
 
   -- in range
   taken : event_in e ≡ true → judged_by s l (asked_event e (data_of l)) ≡ begun_line (took_temperature s.chip (zone - 1) (stated_reading q)) Nothing
-  unfolding asked_event judged_by event_line taken_step quiet_step
+  unfolding asked_event asked_unless judged_by event_line taken_step quiet_step
   taken i =
       let none = in_number e (data_of l) (data_short l) i in
       rw (none, step_taken s.chip e (data_of l) none)
 
   -- out of range
-  refused : event_in e ≡ false → judged_by s l (asked_event e (data_of l)) ≡ refused_line s 2
-  unfolding asked_event judged_by
+  refused : event_in e ≡ false → judged_by s l (asked_event e (data_of l)) ≡ refused_line s refusal.Event
+  unfolding asked_event asked_unless judged_by
   refused o = rw (out_number e (data_of l) (data_short l) o)
 
   -- what comes of it goes by the temperature that it states
@@ -59,7 +60,7 @@ module _ (s : Session) {l : List ℕ} {zone : ℕ} {q : Stated} (t : States l zo
   unfolding judged_line reading_line event_in
   stated_line = ap (judged_by s l) asks ∙ go (event_in e) refl ∙ rw (stated_range q)
     where
-      go : (b : Bool) → event_in e ≡ b → judged_by s l (asked_event e (data_of l)) ≡ pick b (begun_line (took_temperature s.chip (zone - 1) (stated_reading q)) Nothing) (refused_line s 2)
+      go : (b : Bool) → event_in e ≡ b → judged_by s l (asked_event e (data_of l)) ≡ pick b (begun_line (took_temperature s.chip (zone - 1) (stated_reading q)) Nothing) (refused_line s refusal.Event)
       go true i = taken i
       go false o = refused o
 

@@ -1,6 +1,6 @@
 -- Document 02, Q-4, "Fan counts that are not torn", said of lines of text, an S line too, and of what they print. Fans count from 0.
 -- Assumes nothing.
-use Rattle.std.specs.Prelude.{◌≡◌, List, [], ◌∷◌, ℕ}
+use Rattle.std.specs.Prelude.{◌≡◌, List, [], ◌∷◌, ℕ, Some, Ok}
 use Rattle.map.specs.FanBytes.{low_place, high_place}
 use Rattle.state.specs.declared.Chip.{Chip}
 use Rattle.event.specs.declared.Event.TheVariants.{Read}
@@ -16,8 +16,8 @@ use Rattle.theorems.specs.WholeCounts.{WholeCount}
 
 -- a line that is an R of either byte of a fan's count, and is acknowledged
 pub data ReadsFanLine (fan : ℕ) (s : Session) (l : List ℕ) : Type 0 where
-  low : (address byte : ℕ) → asked_text s.begun l ≡ asked.Event (Read address (low_place fan)) → (judged_line s l).answer ≡ Byte byte → ReadsFanLine fan s l
-  high : (address byte : ℕ) → asked_text s.begun l ≡ asked.Event (Read address (high_place fan)) → (judged_line s l).answer ≡ Byte byte → ReadsFanLine fan s l
+  low : (address byte : ℕ) → asked_text s.begun l ≡ Ok (asked.Event (Read address (low_place fan))) → (judged_line s l).answer ≡ Byte (Some byte) → ReadsFanLine fan s l
+  high : (address byte : ℕ) → asked_text s.begun l ≡ Ok (asked.Event (Read address (high_place fan))) → (judged_line s l).answer ≡ Byte (Some byte) → ReadsFanLine fan s l
 
 -- none of the lines, from a session on, is one; a line that is refused may say anything, since it asks for no event
 pub data NoneReadLines (fan : ℕ) : Session → List (List ℕ) → Type 0 where

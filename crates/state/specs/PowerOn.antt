@@ -1,10 +1,9 @@
 -- The setup without a setup, and the chip at power-on (document 01, "Setup" and "Events"; document 02, Q-2 and Q-4). Assumes nothing.
-use Rattle.std.specs.Prelude.{false, [], ◌∷◌, pos, replicate}
+use Rattle.std.specs.Prelude.{false, [], ◌∷◌, pos, replicate, None}
 use Rattle.map.specs.Tables.{defaults}
 use Rattle.state.specs.declared.Chip.{Chip}
 use Rattle.state.specs.declared.Drive.{Drive}
 use Rattle.state.specs.declared.Setup.{Setup}
-use Rattle.state.specs.declared.Latch.TheVariants as latch
 use Rattle.state.specs.Parts.{no_zone, no_gauge, no_kept, no_ramp, no_boost, no_override}
 
 -- "Without a setup: level 0; bases 30; offsets 2; hystereses 2; duties 0, 64, 80 and so on by 16 to 240; no boost; boost hysteresis 3;
@@ -49,6 +48,6 @@ power_on s = record {
   fans = replicate 4 no_gauge;
   kept = replicate 4 no_kept;
   hot = replicate 4 false;
-  pin = record { level = s.level; latch = latch.Open };
+  pin = record { level = s.level; latch = None };
   drive = at_rest;
 }

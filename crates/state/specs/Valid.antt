@@ -1,6 +1,6 @@
 -- Document 01, "Setup", as document 02, Q-6, amends it: the setups that are taken, each of the 59 numbers in its range and duties that never
 -- fall. Bindings and start counts are bytes, and every byte is in range. Assumes nothing.
-use Rattle.std.specs.Prelude.{◌≡◌, Bool, true, List, ℕ, suc, ◌≤◌, ◌<◌, ℤ, pos, neg_ℤ, get_or}
+use Rattle.std.specs.Prelude.{◌≡◌, Bool, true, List, ℕ, suc, ◌≤◌, ◌<◌, ℤ, pos, neg_ℤ, get_or, Option, Some, None}
 use Rattle.std.proofs.Math.Path.{refl}
 use Rattle.std.proofs.Math.Dec.{leb}
 use Rattle.std.specs.Int.Signed.{le_z}
@@ -11,12 +11,6 @@ use Rattle.laws.specs.Both.{both_left, both_right}
 use Rattle.laws.specs.Every.{every, every_at}
 use Rattle.laws.specs.AllPass.{all_pass, pass_at}
 use Rattle.state.specs.declared.Setup.{Setup}
-use Rattle.state.specs.declared.Boost.{Boost}
-use Rattle.state.specs.declared.Boost.TheVariants as boost
-use Rattle.state.specs.declared.ZoneBoost.{ZoneBoost}
-use Rattle.state.specs.declared.Override.{Override}
-use Rattle.state.specs.declared.Override.TheVariants as override
-use Rattle.state.specs.declared.FanOverride.{FanOverride}
 use Rattle.state.specs.Most.{LEVEL_MOST, DEGREES_MOST, OFFSET_MOST, HYSTERESIS_MOST, DUTY_MOST}
 use Rattle.state.specs.Parts.{no_boost, no_override}
 use Rattle.state.specs.PowerOn.{default_setup}
@@ -28,14 +22,14 @@ unfoldable pub degrees_in : ℤ → Bool
 degrees_in z = both (le_z (neg_ℤ (pos DEGREES_MOST)) z) (le_z z (pos DEGREES_MOST))
 
 -- "-127 to 127 or none"
-unfoldable pub boost_in : Boost → Bool
-boost_in boost.Off = true
-boost_in (boost.At z) = degrees_in z
+unfoldable pub boost_in : Option ℤ → Bool
+boost_in None = true
+boost_in (Some z) = degrees_in z
 
 -- "0 to 256 or none"
-unfoldable pub override_in : Override → Bool
-override_in override.Off = true
-override_in (override.At d) = leb d DUTY_MOST
+unfoldable pub override_in : Option ℕ → Bool
+override_in None = true
+override_in (Some d) = leb d DUTY_MOST
 
 -- ---- lists of numbers
 
@@ -52,12 +46,12 @@ unfoldable pub never_fall : List ℕ → Bool
 never_fall duties = every 12 (λ k. leb (get_or duties k 0) (get_or duties (suc k) 0))
 
 -- "6 boosts, -127 to 127 or none"
-unfoldable pub boosts_in : List ZoneBoost → Bool
-boosts_in = all_pass (λ b. boost_in b.boost) no_boost
+unfoldable pub boosts_in : List (Option ℤ) → Bool
+boosts_in = all_pass boost_in no_boost
 
 -- "2 overrides, 0 to 256 or none"
-unfoldable pub overrides_in : List FanOverride → Bool
-overrides_in = all_pass (λ o. override_in o.duty) no_override
+unfoldable pub overrides_in : List (Option ℕ) → Bool
+overrides_in = all_pass override_in no_override
 
 -- ---- a setup
 
@@ -99,14 +93,14 @@ pub record Rising (duties : ℕ → ℕ) : Type 0 where
   pub top : duties 12 ≤ DUTY_MOST
 
 -- no override, or one up to 256
-pub data OverrideRange : Override → Type 0 where
-  none : OverrideRange override.Off
-  some : {d : ℕ} → d ≤ DUTY_MOST → OverrideRange (override.At d)
+pub data OverrideRange : Option ℕ → Type 0 where
+  none : OverrideRange None
+  some : {d : ℕ} → d ≤ DUTY_MOST → OverrideRange (Some d)
 
-override_range : (o : Override) → override_in o ≡ true → OverrideRange o
+override_range : (o : Option ℕ) → override_in o ≡ true → OverrideRange o
 unfolding override_in
-override_range override.Off e = none
-override_range (override.At d) e = some (leb-true d DUTY_MOST e)
+override_range None e = none
+override_range (Some d) e = some (leb-true d DUTY_MOST e)
 
 -- a number of a list in range
 number_le : (most : ℕ) (xs : List ℕ) → numbers_in most xs ≡ true → (k : ℕ) → get_or xs k 0 ≤ most
@@ -151,10 +145,10 @@ module _ (s : Setup) (v : Valid s) where
     top = number_le DUTY_MOST s.duties duties_in_lem 12;
   }
 
-  pub valid_overrides : (f : ℕ) → OverrideRange (get_or s.overrides f no_override).duty
+  pub valid_overrides : (f : ℕ) → OverrideRange (get_or s.overrides f no_override)
   unfolding overrides_in override_in
   valid_overrides f =
-      override_range _ (pass_at (λ (o : FanOverride). override_in o.duty) no_override s.overrides (both_left (overrides_in s.overrides) _ starts_in) refl f)
+      override_range _ (pass_at override_in no_override s.overrides (both_left (overrides_in s.overrides) _ starts_in) refl f)
 
   pub valid_start_duties : (f : ℕ) → get_or s.start_duties f 0 ≤ DUTY_MOST
   valid_start_duties f = number_le DUTY_MOST s.start_duties (both_right (overrides_in s.overrides) _ starts_in) f

@@ -1,4 +1,4 @@
--- A signed number raised by 65536: it has no sign then, and ends in the same bits. Only the contract of `raise` cites it. Assumes nothing.
+-- A signed number raised by 65536: it has no sign then, and ends in the same bits. Assumes nothing.
 use Rattle.std.specs.Prelude.{◌≡◌, ℕ, zero, suc, ◌+◌, ◌-◌, ◌%◌, ◌<◌, eqb, ℤ, pos, negsuc, ◌+ℤ◌}
 use Rattle.std.proofs.Common.{ap, arith, le-ltb}
 use Rattle.std.specs.Int.Signed.{mag}

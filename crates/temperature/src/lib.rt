@@ -3,17 +3,17 @@
 
 ghost use Rattle.std.specs.Prelude.{◌≡◌};
 ghost use Rattle.temperature.specs.Temperature.{whole_of, is_odd, whole_byte, half_set, sixteenths_of, reading_of, count_reading, with_half, hotter_of};
-ghost use Rattle.temperature.specs.Raised.{raised};
 
 // A signed count of sixteenths of a degree, or none.
-#[derive(Clone, Copy)]
+// Stays: document 01 names this enum, a taken count or missing, and how it is taken apart.
+#[derive(Clone, Copy, PartialEq, Eq)]
 pub enum Reading {
     Missing,
     Taken(i16),
 }
 
 // A temperature as an event states it: none, a signed count of half degrees (T), or of sixteenths (U).
-#[derive(Clone, Copy)]
+#[derive(Clone, Copy, PartialEq, Eq)]
 pub enum Stated {
     Missing,
     Halves(i16),
@@ -33,27 +33,23 @@ pub const DEGREE: i16 = 1 << DEGREE_BITS;
 // The whole byte while a reading is missing.
 const MISSING: u8 = 0x80;
 
-// z + 65536: a number with no sign that ends in the same bits.
-fn raise(z: i16) -> u32
-    ensures { result ≡ raised z }
-{
-    (z as i32 + 65536) as u32
-}
-
 // The reading rounded down to a degree, as two's complement.
+#[tactic(auto, unfolding(crate::specs::Temperature::whole_of, crate::specs::Temperature::byte_of))]
 fn whole(n: i16) -> u8
     ensures { result ≡ whole_of n }
 {
-    (raise(n >> DEGREE_BITS) % 256) as u8
+    ((n >> DEGREE_BITS).cast_unsigned() % 256) as u8
 }
 
+#[tactic(auto, unfolding(crate::specs::Temperature::is_odd))]
 fn is_odd(h: i16) -> bool
     ensures { result ≡ is_odd h }
 {
-    raise(h) % 2 == 1
+    h.cast_unsigned() % 2 == 1
 }
 
 // The whole-degree byte that shows a reading.
+#[tactic(auto, unfolding(crate::specs::Temperature::whole_byte))]
 pub fn whole_byte(reading: Reading) -> u8
     ensures { result ≡ whole_byte reading }
 {
@@ -64,6 +60,7 @@ pub fn whole_byte(reading: Reading) -> u8
 }
 
 // Whether the half bit is set that shows a reading.
+#[tactic(auto, unfolding(crate::specs::Temperature::half_set))]
 pub fn half_set(reading: Reading) -> bool
     ensures { result ≡ half_set reading }
 {
@@ -74,16 +71,15 @@ pub fn half_set(reading: Reading) -> bool
 }
 
 // How many sixteenths a byte of signed degrees is.
+#[tactic(auto, unfolding(crate::specs::Temperature::degrees_of))]
 pub fn from_degrees(byte: u8) -> i16
     ensures { result ≡ sixteenths_of byte }
 {
-    if byte < 0x80 {
-        return byte as i16 * DEGREE;
-    }
-    (byte as i16 - 256) * DEGREE
+    byte.cast_signed() as i16 * DEGREE
 }
 
 // The reading that a whole-degree byte stands for, with no fraction.
+#[tactic(auto, unfolding(crate::specs::Temperature::reading_of))]
 pub fn from_byte(byte: u8) -> Reading
     ensures { result ≡ reading_of byte }
 {
@@ -94,6 +90,7 @@ pub fn from_byte(byte: u8) -> Reading
 }
 
 // The reading that a voltage count stands for: the count minus 128 degrees. A count of 0 is missing.
+#[tactic(auto, unfolding(crate::specs::Temperature::count_reading))]
 pub fn from_count(count: u8) -> Reading
     ensures { result ≡ count_reading count }
 {
@@ -104,6 +101,7 @@ pub fn from_count(count: u8) -> Reading
 }
 
 // The reading with its half bit set or cleared and no rest below it; a missing one stays missing.
+#[tactic(auto, unfolding(crate::specs::Temperature::with_half))]
 pub fn with_half(reading: Reading, half: bool) -> Reading
     ensures { result ≡ with_half reading half }
 {
@@ -119,18 +117,12 @@ pub fn with_half(reading: Reading, half: bool) -> Reading
 }
 
 // The hotter of two readings; a missing one is the hotter.
+#[tactic(auto, unfolding(crate::specs::Temperature::hotter_of))]
 pub fn hotter(a: Reading, b: Reading) -> Reading
     ensures { result ≡ hotter_of a b }
 {
-    let Reading::Taken(x) = a else {
+    let (Reading::Taken(x), Reading::Taken(y)) = (a, b) else {
         return Reading::Missing;
     };
-    let Reading::Taken(y) = b else {
-        return Reading::Missing;
-    };
-    if x < y {
-        Reading::Taken(y)
-    } else {
-        Reading::Taken(x)
-    }
+    Reading::Taken(x.max(y))
 }

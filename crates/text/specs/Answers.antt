@@ -1,8 +1,9 @@
 -- Document 01, "Lines and refusals", and document 02, Q-1: the text of the answers. Bytes: 9 is the tab, 10 the line feed, 45 the minus
 -- sign, 48 to 57 the digits, 65 to 70 A to F, 69 E, 71 G, 75 K, 82 R. Assumes nothing.
-use Rattle.std.specs.Prelude.{◌≡◌, Bool, List, [], ◌∷◌, ◌++◌, ℕ, zero, suc, ◌+◌, ◌-◌, ◌/◌, ◌%◌, leb, ltb, length, drop}
+use Rattle.std.specs.Prelude.{◌≡◌, Bool, List, [], ◌∷◌, ◌++◌, ℕ, zero, suc, ◌+◌, ◌-◌, ◌/◌, ◌%◌, ◌≤◌, leb, ltb, length, drop}
 use Rattle.std.proofs.lemmas.List.Edits.{sets}
 use Rattle.laws.specs.Pick.{pick}
+use Rattle.text.specs.declared.Output.{Output}
 
 -- n in decimal without leading zeros, where it has at most k digits
 unfoldable pub digits_text : ℕ → ℕ → List ℕ
@@ -76,3 +77,15 @@ wrote_into room text out = pick (ltb (length out) room) out (text ++ drop (lengt
 pub record Wrote (before : List ℕ) (at : ℕ) (text : List ℕ) (next : ℕ) (after : List ℕ) : Type 0 where
   pub ends : next ≡ at + length text
   pub holds : after ≡ sets before at text
+
+-- ---- a lent buffer, and how much of it is written
+
+-- n more bytes fit
+abbrev pub HasRoom : Output → ℕ → Type 0
+HasRoom output n = output.written + n ≤ length output.out.now
+
+-- `after` is `before` with text behind what was written, in the same buffer
+pub record Writes (before : Output) (text : List ℕ) (after : Output) : Type 0 where
+  pub same : after.out.ghost_name ≡ before.out.ghost_name
+  pub whole : length after.out.now ≡ length before.out.now
+  pub wrote : Wrote before.out.now before.written text after.written after.out.now

@@ -1,19 +1,18 @@
 -- Worked cases of spelling and of answers, from document 01, and answers to G and P. Assumes nothing.
-use Rattle.std.specs.Prelude.{◌≡◌, refl, true, false, [], ◌∷◌}
+use Rattle.std.specs.Prelude.{◌≡◌, refl, true, false, None, Some, [], ◌∷◌}
 use Rattle.text.specs.declared.Number.TheVariants as number
-use Rattle.text.specs.declared.Hex.TheVariants as hex
 use Rattle.text.specs.Fields.{first_field, other_fields, fields_of}
 use Rattle.text.specs.Number.{is_digit, all_digits, value_of, run_of, plus_of, minus_of, decimal_of, saturated}
 use Rattle.text.specs.Hex.{nibble_of, hex_byte_of}
 use Rattle.text.specs.Answers.{digits_text, column_text, hex_digit, hex_text, digit_of, ack_text, byte_text, no_byte_text, bytes_text, block_text, tick_text, refusal_text}
 
 -- "0", "70", "-254", "-", "65536"; wrong: "", "-0", "+1", "07", "1 ", "--1"
-pub decimals : (decimal_of (48 ∷ []) ≡ number.Plus 0) × (decimal_of (55 ∷ 48 ∷ []) ≡ number.Plus 70) × (decimal_of (45 ∷ 50 ∷ 53 ∷ 52 ∷ []) ≡ number.Minus 254) × (decimal_of (45 ∷ []) ≡ number.Dash) × (decimal_of (54 ∷ 53 ∷ 53 ∷ 51 ∷ 54 ∷ []) ≡ number.Plus 65536) × (saturated (decimal_of (54 ∷ 53 ∷ 53 ∷ 51 ∷ 54 ∷ [])) ≡ number.Plus 65535) × (decimal_of [] ≡ number.Wrong) × (decimal_of (45 ∷ 48 ∷ []) ≡ number.Wrong) × (decimal_of (43 ∷ 49 ∷ []) ≡ number.Wrong) × (decimal_of (48 ∷ 55 ∷ []) ≡ number.Wrong) × (decimal_of (49 ∷ 32 ∷ []) ≡ number.Wrong) × (decimal_of (45 ∷ 45 ∷ 49 ∷ []) ≡ number.Wrong)
+pub decimals : (decimal_of (48 ∷ []) ≡ Some (number.Plus 0)) × (decimal_of (55 ∷ 48 ∷ []) ≡ Some (number.Plus 70)) × (decimal_of (45 ∷ 50 ∷ 53 ∷ 52 ∷ []) ≡ Some (number.Minus 254)) × (decimal_of (45 ∷ []) ≡ Some number.Dash) × (decimal_of (54 ∷ 53 ∷ 53 ∷ 51 ∷ 54 ∷ []) ≡ Some (number.Plus 65536)) × (saturated (decimal_of (54 ∷ 53 ∷ 53 ∷ 51 ∷ 54 ∷ [])) ≡ Some (number.Plus 65535)) × (decimal_of [] ≡ None) × (decimal_of (45 ∷ 48 ∷ []) ≡ None) × (decimal_of (43 ∷ 49 ∷ []) ≡ None) × (decimal_of (48 ∷ 55 ∷ []) ≡ None) × (decimal_of (49 ∷ 32 ∷ []) ≡ None) × (decimal_of (45 ∷ 45 ∷ 49 ∷ []) ≡ None)
 unfolding decimal_of plus_of minus_of run_of all_digits is_digit value_of saturated
 decimals = (refl, refl, refl, refl, refl, refl, refl, refl, refl, refl, refl, refl)
 
 -- "2C" is a byte; "2c", "C", "-", "-0", "02C" are not
-pub bytes : (hex_byte_of (50 ∷ 67 ∷ []) ≡ hex.Byte 0x2C) × (hex_byte_of (50 ∷ 99 ∷ []) ≡ hex.Wrong) × (hex_byte_of (67 ∷ []) ≡ hex.Wrong) × (hex_byte_of (45 ∷ []) ≡ hex.Wrong) × (hex_byte_of (45 ∷ 48 ∷ []) ≡ hex.Wrong) × (hex_byte_of (48 ∷ 50 ∷ 67 ∷ []) ≡ hex.Wrong)
+pub bytes : (hex_byte_of (50 ∷ 67 ∷ []) ≡ Some 0x2C) × (hex_byte_of (50 ∷ 99 ∷ []) ≡ None) × (hex_byte_of (67 ∷ []) ≡ None) × (hex_byte_of (45 ∷ []) ≡ None) × (hex_byte_of (45 ∷ 48 ∷ []) ≡ None) × (hex_byte_of (48 ∷ 50 ∷ 67 ∷ []) ≡ None)
 unfolding hex_byte_of nibble_of
 bytes = (refl, refl, refl, refl, refl, refl)
 

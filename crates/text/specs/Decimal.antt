@@ -1,5 +1,5 @@
 -- The digits that are written are the number's decimal. Assumes nothing.
-use Rattle.std.specs.Prelude.{◌≡◌, refl, Bool, true, false, List, [], ◌∷◌, ◌++◌, ℕ, zero, suc, ◌+◌, ◌-◌, ◌*◌, ◌/◌, ◌%◌, ◌^◌, ◌≤◌, ◌<◌, length, get_or}
+use Rattle.std.specs.Prelude.{◌≡◌, refl, Bool, true, false, Some, List, [], ◌∷◌, ◌++◌, ℕ, zero, suc, ◌+◌, ◌-◌, ◌*◌, ◌/◌, ◌%◌, ◌^◌, ◌≤◌, ◌<◌, length, get_or}
 use Rattle.std.proofs.Common.{sym, ◌∙◌, pow-suc, le_of_suc-le-suc, sub-one, arith, length-append, lt-ltb, le-ltb}
 use Rattle.std.proofs.Math.Logic.{by_cases}
 use Rattle.std.proofs.Math.Decide.{dec_lt}
@@ -130,10 +130,10 @@ module _ (k n : ℕ) (p : 0 < k) (h : n < 10 ^ k) where
       by_cases (dec_lt n 10) (λ t. plus_one (digits_text k n) some (rw (digits_one k n p t) (omega arith)))
       (λ t. plus_more (digits_text k n) some (digits_first k n (omega arith) h))
 
-  run : as_plus (run_of (digits_text k n)) ≡ Plus n
+  run : as_plus (run_of (digits_text k n)) ≡ Some (Plus n)
   unfolding run_of
   run = rw (digits_all k n, digits_value k n h)
 
   -- a decimal field reads the digits as the number
-  pub decimal_digits : decimal_of (digits_text k n) ≡ Plus n
+  pub decimal_digits : decimal_of (digits_text k n) ≡ Some (Plus n)
   decimal_digits = decimal_plus (digits_text k n) some unsigned ∙ spelled ∙ run

@@ -1,12 +1,10 @@
 -- A run of digits, read byte after byte, and its value up to 65535. Assumes nothing.
-use Rattle.std.specs.Prelude.{◌≡◌, refl, true, false, List, [], ◌∷◌, ℕ, ◌+◌, ◌-◌, ◌*◌, ◌≤◌, ◌<◌, min, length, get_or, drop}
+use Rattle.std.specs.Prelude.{◌≡◌, refl, true, false, Option, None, Some, List, [], ◌∷◌, ℕ, ◌+◌, ◌-◌, ◌*◌, ◌≤◌, ◌<◌, min, length, get_or, drop}
 use Rattle.std.proofs.Math.Logic.{by_cases}
 use Rattle.std.proofs.Math.Decide.{dec_le}
 use Rattle.std.proofs.Common.{arith, le-leb}
 use Rattle.std.proofs.lemmas.Bool.{lt-leb}
 use Rattle.laws.specs.Left.{left_some, left_none}
-use Rattle.text.specs.declared.Run.{Run}
-use Rattle.text.specs.declared.Run.TheVariants.{Digits, Other}
 use Rattle.text.specs.Number.{is_digit, all_digits, value_of, run_of, as_plus, as_minus, saturated, saturated_run, top}
 
 -- ---- one byte
@@ -73,23 +71,23 @@ value_top v s =
 -- ---- what the code hands on
 
 -- digits are handed on as their value up to 65535
-pub run_digits : (s : List ℕ) → all_digits s ≡ true → saturated_run (run_of s) ≡ Digits (min (value_of 0 s) top)
+pub run_digits : (s : List ℕ) → all_digits s ≡ true → saturated_run (run_of s) ≡ Some (min (value_of 0 s) top)
 unfolding run_of saturated_run
 run_digits s e = rw e
 
--- anything else as Other
-pub run_other : (s : List ℕ) → all_digits s ≡ false → saturated_run (run_of s) ≡ Other
+-- anything else as None
+pub run_other : (s : List ℕ) → all_digits s ≡ false → saturated_run (run_of s) ≡ None
 unfolding run_of saturated_run
 run_other s e = rw e
 
 -- a run can be held to 65535 before or after it becomes a number
-pub as_plus_lem : (r : Run) → as_plus (saturated_run r) ≡ saturated (as_plus r)
+pub as_plus_lem : (r : Option ℕ) → as_plus (saturated_run r) ≡ saturated (as_plus r)
 unfolding saturated saturated_run
-as_plus_lem Other = refl
-as_plus_lem (Digits v) = refl
+as_plus_lem None = refl
+as_plus_lem (Some v) = refl
 
 -- and so behind a minus sign
-pub as_minus_lem : (r : Run) → as_minus (saturated_run r) ≡ saturated (as_minus r)
+pub as_minus_lem : (r : Option ℕ) → as_minus (saturated_run r) ≡ saturated (as_minus r)
 unfolding saturated saturated_run
-as_minus_lem Other = refl
-as_minus_lem (Digits v) = refl
+as_minus_lem None = refl
+as_minus_lem (Some v) = refl

@@ -1,12 +1,11 @@
 -- Document 02, Q-2, "Voltage hysteresis as the chip has it", over lists of events: from when until when a channel is in error, and the bit
 -- that its readings set. Channels count from 0. Assumes nothing.
-use Rattle.std.specs.Prelude.{◌≡◌, true, false, List, [], ◌∷◌, ℕ}
+use Rattle.std.specs.Prelude.{◌≡◌, true, false, List, [], ◌∷◌, ℕ, Some}
 use Rattle.std.proofs.Common.{sym, ◌∙◌}
 use Rattle.laws.specs.Never.{never}
 use Rattle.masks.specs.Masks.{volt_masked}
 use Rattle.state.specs.declared.Chip.{Chip}
 use Rattle.state.specs.declared.Setup.{Setup}
-use Rattle.state.specs.declared.Count.TheVariants.{Taken}
 use Rattle.state.specs.Parts.{in_error}
 use Rattle.state.specs.PowerOn.{power_on}
 use Rattle.event.specs.Run.{Given, given_step, chip_after}
@@ -65,7 +64,7 @@ module _ (s : Setup) (gs : List Given) (i : ℕ) where
       go (first h u) = let q = sym (power_sound s i) ∙ h in absurd (never (cc))
 
   -- "and each taken reading in between sets the bit again"; 02, Q-12: unless it is masked. What comes before may have been masked or not
-  pub sets_again : Started i (power_on s) gs → (g : Given) (n : ℕ) → GivesCount i (Taken n) g → (Ends i (chip_after (power_on s) gs) g → ⊥) → volt_masked (chip_after (power_on s) gs).registers i ≡ false → ShowsError i (given_step (chip_after (power_on s) gs) g).chip
+  pub sets_again : Started i (power_on s) gs → (g : Given) (n : ℕ) → GivesCount i (Some n) g → (Ends i (chip_after (power_on s) gs) g → ⊥) → volt_masked (chip_after (power_on s) gs).registers i ≡ false → ShowsError i (given_step (chip_after (power_on s) gs) g).chip
   sets_again a g n r o u =
       let z = reached_sized s gs in
       reading_sets i _ z g n r u (held i _ z g o (from_reading a))

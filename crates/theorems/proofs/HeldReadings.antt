@@ -1,6 +1,6 @@
 -- Document 02, Q-7: "Zone readings are held in sixteenths, -2032 to 2040": after any events from power-on each zone is missing or in that range,
 -- where what is written on the bus are bytes. Assumes nothing.
-use Rattle.std.specs.Prelude.{◌≡◌, refl, Bool, true, false, cond, ℕ, suc, ◌+◌, ◌-◌, ◌*◌, ◌/◌, ◌%◌, ◌≤◌, ◌<◌, eqb, leb, ltb, ℤ, pos, negsuc, ◌+ℤ◌, ◌-ℤ◌, ◌*ℤ◌, get_or}
+use Rattle.std.specs.Prelude.{◌≡◌, refl, Bool, true, false, cond, ℕ, suc, ◌+◌, ◌-◌, ◌*◌, ◌/◌, ◌%◌, ◌≤◌, ◌<◌, eqb, leb, ltb, ℤ, pos, negsuc, ◌+ℤ◌, ◌-ℤ◌, ◌*ℤ◌, get_or, Option, Some, None}
 use mathlib.Core.List.{List, [], ◌∷◌}
 use Rattle.std.proofs.Math.Logic.{by_cases}
 use Rattle.std.proofs.Math.Decide.{ℕ_discrete}
@@ -16,8 +16,6 @@ use Rattle.temperature.specs.Temperature.{HALF, DEGREE, degrees_of, reading_of, 
 use Rattle.temperature.specs.Sixteenths.{half_of, part_neg}
 use Rattle.state.specs.declared.Chip.{Chip}
 use Rattle.state.specs.declared.Setup.{Setup}
-use Rattle.state.specs.declared.Count.{Count}
-use Rattle.state.specs.declared.Count.TheVariants as count
 use Rattle.state.specs.Parts.{zone_at}
 use Rattle.state.specs.PowerOn.{power_on}
 use Rattle.sense.specs.Events.{volt_reading}
@@ -96,10 +94,10 @@ byte_in byte b = go (eqb byte 0x80) refl
     go false e = degrees_in_lem (signed byte b (eqb-false byte 0x80 e))
 
 -- a count
-count_in_lem : (n : Count) → InRange (volt_reading n)
+count_in_lem : (n : Option ℕ) → InRange (volt_reading n)
 unfolding volt_reading count_reading
-count_in_lem count.Missing = missing_in
-count_in_lem (count.Taken n) = go (eqb (n % 256) 0) refl
+count_in_lem None = missing_in
+count_in_lem (Some n) = go (eqb (n % 256) 0) refl
   where
     go : (t : Bool) → eqb (n % 256) 0 ≡ t → InRange (pick t Missing (Taken ((pos (n % 256) -ℤ pos 128) *ℤ pos DEGREE)))
     go true e = missing_in

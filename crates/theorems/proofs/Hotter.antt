@@ -1,6 +1,6 @@
 -- Demand 3: "Of two lists of events, none refused, from one setup, alike but that temperatures in the second may be hotter (missing is
 -- hottest), each fan's duty after every tick, before the start-up kick, is at least as high in the second." Assumes nothing.
-use Rattle.std.specs.Prelude.{◌≡◌, List}
+use Rattle.std.specs.Prelude.{◌≡◌, List, None}
 use Rattle.state.specs.declared.Chip.{Chip}
 use Rattle.state.specs.declared.Setup.{Setup}
 use Rattle.state.specs.PowerOn.{power_on}
@@ -40,6 +40,6 @@ run {c = c} {d = d} p (more {g = g} {h = h} a rest) (more t ts) (more u us) =
     more (step p a t u).answers (run {c = (given_step c g).chip} {d = (given_step d h).chip} (next p a t u) rest ts us)
 
 -- from one setup, which is taken: `state::power_on` and `port::power_on` answer 0
-pub demand_3 : (s : Setup) → (powered_on s).refusal ≡ 0 → (gs hs : List Given) → AllAlike gs hs → NoneRefused (power_on s) gs → NoneRefused (power_on s) hs
+pub demand_3 : (s : Setup) → (powered_on s).refusal ≡ None → (gs hs : List Given) → AllAlike gs hs → NoneRefused (power_on s) gs → NoneRefused (power_on s) hs
     → AllNoHigher (answers_to (power_on s) gs) (answers_to (power_on s) hs)
 demand_3 s t gs hs a p q = run (power_pair s (powered_valid s t)) a p q

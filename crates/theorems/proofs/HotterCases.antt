@@ -1,6 +1,6 @@
 -- Lists of events that meet all that demand 3 asks, a T against a U: U 1 543 and K, T 1 68, which is 544 sixteenths, and K, and U 1 - and K;
 -- each is hotter than the one before it, the second by one sixteenth. Assumes nothing.
-use Rattle.std.specs.Prelude.{◌≡◌, refl, [], pos}
+use Rattle.std.specs.Prelude.{◌≡◌, refl, [], pos, None}
 use Rattle.temperature.specs.declared.Stated.{Stated}
 use Rattle.temperature.specs.declared.Stated.TheVariants.{Halves, Sixteenths, Missing}
 use Rattle.temperature.specs.Temperature.{stated_reading}
@@ -29,13 +29,13 @@ pub missing_alike : AllAlike (ticked (Halves (pos 68))) (ticked Missing)
 unfolding stated_reading
 missing_alike = alike missing
 
-none_refused : (s : Setup) (r : Stated) → refusal_of (Temperature 1 r) [] ≡ 0 → NoneRefused (power_on s) (ticked r)
+none_refused : (s : Setup) (r : Stated) → refusal_of (Temperature 1 r) [] ≡ None → NoneRefused (power_on s) (ticked r)
 unfolding refusal_of event_in
 none_refused s r z = more (in_taken _ (Temperature 1 r) [] z) (more (in_taken _ Tick [] refl) none)
 
 -- ---- so each fan's duty is at least as high in the second, from any setup that is taken
 
-module _ (s : Setup) (t : (powered_on s).refusal ≡ 0) where
+module _ (s : Setup) (t : (powered_on s).refusal ≡ None) where
   pub sixteenth_no_lower : AllNoHigher (answers_to (power_on s) (ticked (Sixteenths (pos 543)))) (answers_to (power_on s) (ticked (Halves (pos 68))))
   unfolding refusal_of event_in index_in stated_in reading_within
   sixteenth_no_lower = demand_3 s t _ _ sixteenth_alike (none_refused s _ refl) (none_refused s _ refl)

@@ -1,17 +1,14 @@
 -- Alike events, none refused, leave a chip that is no hotter than another no hotter, and answer no higher duties. Assumes nothing.
-use Rattle.std.specs.Prelude.{◌≡◌, Bool, List, [], ℕ, ◌-◌, eqb}
+use Rattle.std.specs.Prelude.{◌≡◌, Bool, List, [], ℕ, ◌-◌, eqb, Option, Some, None}
 use Rattle.laws.specs.Pointwise.{pick_related}
 use Rattle.map.specs.declared.Block.{Block}
-use Rattle.map.specs.declared.Block.TheVariants.{Unlisted, Fixed}
 use Rattle.temperature.specs.Temperature.{stated_reading}
 use Rattle.temperature.specs.Order.{no_hotter_refl}
 use Rattle.state.specs.declared.Chip.{Chip}
 use Rattle.state.specs.declared.Drive.{Drive}
-use Rattle.state.specs.declared.Zone.{Zone}
 use Rattle.state.specs.Valid.{Valid}
 use Rattle.state.specs.Order.{DriveNoHigher, SameButZones}
 use Rattle.sense.specs.Missing.{missed}
-use Rattle.bus.specs.Read.{Shown as Byte, NoByte as NoneShown, Byte as ByteShown}
 use Rattle.laws.specs.Never.{never}
 use Rattle.drive.specs.TickOrder.{duty_rises, tick_cooler}
 use Rattle.event.specs.declared.Event.{Event}
@@ -26,6 +23,9 @@ use Rattle.event.specs.Ticking.{tick_chip, tick_leaves, tick_shown, tick_answers
 use Rattle.theorems.specs.Alike.{Alike, same, hotter, ticks, others}
 use Rattle.theorems.specs.Beside.{ZonesCooler, Under, beside, under_beside}
 use Rattle.theorems.specs.Events.{itself, temperature_under, voltage_under, fan_under, hot_under, pin_under, reset_under, missed_under, write_under, read_under, read_block_under, write_block_under}
+use Rattle.state.specs.declared.Refusal.{Refusal}
+use Rattle.temperature.specs.declared.Reading.{Reading}
+use Rattle.std.specs.Option.{option_map_or}
 use Rattle.theorems.specs.Steps.{NotRefused, Rises}
 
 -- ---- answers that are no tick's
@@ -33,21 +33,19 @@ use Rattle.theorems.specs.Steps.{NotRefused, Rises}
 nothing : (t : Shown) → Nothing ≡ Ticked t → ⊥
 nothing t e = never (cc)
 
-refused : (n : ℕ) (t : Shown) → Refused n ≡ Ticked t → ⊥
+refused : (r : Refusal) (t : Shown) → Refused r ≡ Ticked t → ⊥
 refused n t e = never (cc)
 
 acknowledged : (ack : Bool) (t : Shown) → Acknowledged ack ≡ Ticked t → ⊥
 acknowledged ack t e = never (cc)
 
-seen : (s : Byte) (t : Shown) → seen_answer s ≡ Ticked t → ⊥
+seen : (shown : Option ℕ) (t : Shown) → seen_answer shown ≡ Ticked t → ⊥
 unfolding seen_answer
-seen NoneShown t e = never (cc)
-seen (ByteShown b) t e = never (cc)
+seen shown t e = never (cc)
 
-block : (b : Block) (t : Shown) → block_answer b ≡ Ticked t → ⊥
+block : (b : Option Block) (t : Shown) → block_answer b ≡ Ticked t → ⊥
 unfolding block_answer
-block Unlisted t e = never (cc)
-block (Fixed first count) t e = never (cc)
+block b t e = never (cc)
 
 block_written : (ack : Bool) (t : Shown) → BlockWritten ack ≡ Ticked t → ⊥
 block_written ack t e = never (cc)
@@ -58,7 +56,7 @@ unfolding quiet_step
 quiet_rises k = record { chips = k; answers = others nothing nothing }
 
 -- a refused event
-refused_rises : (refusal : ℕ) {c d : Chip} → Under c d → Rises (refused_step c refusal) (refused_step d refusal)
+refused_rises : (refusal : Refusal) {c d : Chip} → Under c d → Rises (refused_step c refusal) (refused_step d refusal)
 unfolding refused_step
 refused_rises refusal k = record { chips = k; answers = others (refused refusal) (refused refusal) }
 
@@ -68,7 +66,7 @@ not_refused_taken c g f = step_taken c g.event g.bytes (taken_number c g.event g
 
 -- ---- the same event
 
-module _ (c : Chip) {file : List ℕ} {zs : List Zone} {x : Drive} (v : Valid c.setup) (b : SameButZones c.registers file) (z : ZonesCooler c.zones zs) (n : DriveNoHigher c.drive x) where
+module _ (c : Chip) {file : List ℕ} {zs : List Reading} {x : Drive} (v : Valid c.setup) (b : SameButZones c.registers file) (z : ZonesCooler c.zones zs) (n : DriveNoHigher c.drive x) where
   abbrev d : Chip
   d = beside c file zs x
 
@@ -109,7 +107,11 @@ module _ (c : Chip) {file : List ℕ} {zs : List Zone} {x : Drive} (v : Valid c.
   same_rises : (g : Given) → Rises (given_step c g) (given_step d g)
   unfolding stepped_chip
   same_rises g =
-      pick_related Rises (eqb (refusal_of g.event g.bytes) 0) (taken_rises g.event g.bytes) (refused_rises (refusal_of g.event g.bytes) (itself c b z n))
+      go (refusal_of g.event g.bytes)
+    where
+      go : (r : Option Refusal) → Rises (option_map_or (refused_step c) r (taken_step c g.event g.bytes)) (option_map_or (refused_step d) r (taken_step d g.event g.bytes))
+      go None = taken_rises g.event g.bytes
+      go (Some r) = refused_rises r (itself c b z n)
 
   -- alike events: the same, or a T or U that is hotter for the second
   alike_rises : {g h : Given} → Alike g h → NotRefused c g → NotRefused d h → Rises (given_step c g) (given_step d h)

@@ -1,13 +1,11 @@
 -- A fan that was never read shows no count, to byte reads as in the dump and in blocks, whatever its kept byte. Fans count from 0.
 -- Assumes nothing.
-use Rattle.std.specs.Prelude.{◌≡◌, refl, List, ℕ, ◌<◌, get_or}
+use Rattle.std.specs.Prelude.{◌≡◌, refl, List, ℕ, ◌<◌, get_or, Option, None}
 use Rattle.laws.specs.Pointwise.{replicate_each}
 use Rattle.laws.specs.Store.{set_cases}
 use Rattle.map.specs.FanBytes.{FanByte, neither, low, high, fan_byte_at}
 use Rattle.state.specs.declared.Chip.{Chip}
 use Rattle.state.specs.declared.Setup.{Setup}
-use Rattle.state.specs.declared.Count.TheVariants.{Missing}
-use Rattle.state.specs.declared.FanKept.{FanKept}
 use Rattle.state.specs.Parts.{no_kept, fan_at, kept_at}
 use Rattle.state.specs.PowerOn.{power_on}
 use Rattle.bus.specs.Latch.{transacted}
@@ -27,12 +25,12 @@ use Rattle.theorems.specs.Healthy.{NeverRead, none, more}
 use Rattle.theorems.specs.UnreadFans.{ShowsNoCount}
 
 -- no byte is kept, or FFh
-abbrev NoneOrFFh : FanKept → Type 0
-NoneOrFFh k = given_byte k.byte 0xFF ≡ 0xFF
+abbrev NoneOrFFh : Option ℕ → Type 0
+NoneOrFFh k = given_byte k 0xFF ≡ 0xFF
 
 -- fan i has no reading, and a byte read of its high byte shows that
 record Uncounted (i : ℕ) (c : Chip) : Type 0 where
-  missing : fan_at c i ≡ Missing
+  missing : fan_at c i ≡ None
   kept : NoneOrFFh (get_or c.kept i no_kept)
 
 module _ (i : ℕ) (c : Chip) (u : Uncounted i c) where

@@ -1,6 +1,6 @@
 -- What events leave of a zone: what its reading has, P, it has until an event gives it a reading that has not. So one that is missing stays so
 -- until it is given a taken one. Assumes nothing.
-use Rattle.std.specs.Prelude.{◌≡◌, refl, true, List, T, ltb}
+use Rattle.std.specs.Prelude.{◌≡◌, refl, true, List, T, ltb, Option}
 use Rattle.std.proofs.Common.{◌∙◌, arith, ltb→lt}
 use Prim.Native.Nat.{ℕ, zero, suc, ◌-◌}
 use Rattle.map.specs.Names.{TEMPERATURE_SOURCE_SELECT}
@@ -8,7 +8,6 @@ use Rattle.temperature.specs.declared.Reading.{Reading}
 use Rattle.temperature.specs.declared.Reading.TheVariants.{Taken, Missing}
 use Rattle.temperature.specs.Temperature.{stated_reading, with_half}
 use Rattle.state.specs.declared.Chip.{Chip}
-use Rattle.state.specs.declared.Count.{Count}
 use Rattle.state.specs.Parts.{register_at, zone_at, in_error}
 use Rattle.state.specs.With.{with_volt, with_in_error}
 use Rattle.sense.specs.Missing.{missed}
@@ -36,7 +35,7 @@ module _ {P : Reading → Type 0} (h : HalfKeeps P) (z : ℕ) (c : Chip) (m : Ha
   temperature_has i r own = pick_where (Has P z) (zone_heard (source_of c) i) (λ t. set_has h z c m i r (own t)) m
 
   -- V, the zone that a channel feeds
-  fed_has : (channel : ℕ) (n : Count) → (Feeds (source_of c) channel z → P (volt_reading n)) → Has P z (fed_zone c channel n)
+  fed_has : (channel : ℕ) (n : Option ℕ) → (Feeds (source_of c) channel z → P (volt_reading n)) → Has P z (fed_zone c channel n)
   unfolding fed_zone
   fed_has channel n own =
       pick_where (Has P z) (feeds_three (source_of c) channel) (λ t. set_has h z c m 4 (volt_reading n) (λ e. own (rw (← e) (three t))))
@@ -48,7 +47,7 @@ from_one k = omega arith
 
 module _ {P : Reading → Type 0} (h : HalfKeeps P) (z : ℕ) (c : Chip) (m : Has P z c) where
   -- V
-  voltage_has : (channel : ℕ) (n : Count) → (Feeds (source_of c) channel z → P (volt_reading n)) → Has P z (took_voltage c channel n)
+  voltage_has : (channel : ℕ) (n : Option ℕ) → (Feeds (source_of c) channel z → P (volt_reading n)) → Has P z (took_voltage c channel n)
   unfolding took_voltage read_volt with_volt with_in_error zone_at register_at
   voltage_has channel n own =
       pick_where (Has P z) (ltb channel 16)

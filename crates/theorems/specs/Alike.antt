@@ -8,6 +8,7 @@ use Rattle.event.specs.declared.Event.TheVariants.{Temperature}
 use Rattle.event.specs.declared.Answer.{Answer}
 use Rattle.event.specs.declared.Answer.TheVariants.{Refused, Ticked}
 use Rattle.event.specs.declared.Tick.{Tick}
+use Rattle.state.specs.declared.Refusal.{Refusal}
 use Rattle.event.specs.Run.{Given, given_step}
 
 -- the same event with the same bytes beside it, or a T or U for the same zone whose temperature is hotter in the second, or equal, in
@@ -24,7 +25,7 @@ pub data AllAlike : List Given → List Given → Type 0 where
 -- none of the events is refused, from a chip on
 pub data NoneRefused : Chip → List Given → Type 0 where
   none : {c : Chip} → NoneRefused c []
-  more : {c : Chip} {g : Given} {gs : List Given} → ((n : ℕ) → (given_step c g).answer ≡ Refused n → ⊥) → NoneRefused (given_step c g).chip gs → NoneRefused c (g ∷ gs)
+  more : {c : Chip} {g : Given} {gs : List Given} → ((r : Refusal) → (given_step c g).answer ≡ Refused r → ⊥) → NoneRefused (given_step c g).chip gs → NoneRefused c (g ∷ gs)
 
 -- the duties of a tick's answer, before the start-up kick, are at least as high in the second; other answers are not compared
 pub data NoHigher : Answer → Answer → Type 0 where

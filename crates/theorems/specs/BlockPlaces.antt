@@ -1,14 +1,13 @@
 -- No listed block has 31h or E3h in it, so no byte of a block write changes them. Assumes nothing.
-use Rattle.std.specs.Prelude.{◌≡◌, refl, ◌≢◌, Bool, true, false, not, ℕ, ◌+◌, ◌<◌, T, leb, ltb, eqb}
-use Rattle.std.proofs.Common.{sym, arith, leb-true, eq-eqb, ltb→lt, get_or-set_other}
+use Rattle.std.specs.Prelude.{◌≡◌, refl, ◌≢◌, Bool, true, false, not, ℕ, ◌+◌, ◌<◌, T, leb, ltb, eqb, Option}
+use Rattle.std.proofs.Common.{ap, sym, arith, leb-true, eq-eqb, ltb→lt, get_or-set_other}
 use Rattle.std.proofs.Math.Dec.{eqb→eq}
 use Rattle.laws.specs.Pick.{either}
 use Rattle.laws.specs.Table.{passes, entry}
-use Rattle.map.specs.declared.Block.TheVariants.{Fixed}
 use Rattle.map.specs.Names.{TEMPERATURE_SOURCE_SELECT, B_ERROR_STATUS_1, H_ERROR_STATUS_1, CONFIGURATION}
 use Rattle.map.specs.Tables.{homes}
 use Rattle.map.specs.Map.{home_of}
-use Rattle.map.specs.Blocks.{block_firsts, block_counts, block_of, passes_all, block_test, block_within}
+use Rattle.map.specs.Blocks.{fixed, block_firsts, block_counts, block_of, passes_all, block_test, block_within}
 use Rattle.state.specs.declared.Chip.{Chip}
 use Rattle.state.specs.Parts.{register_at}
 use Rattle.state.specs.With.{with_register, with_zone}
@@ -18,6 +17,13 @@ use Rattle.bus.specs.declared.Change.{Change}
 use Rattle.bus.specs.Write.{stored, cleared, change_of, changed, wrote_register}
 use Rattle.bus.specs.Changes.{Allowed, none, store, clear, zone}
 use Rattle.bus.proofs.Changes.{change_allowed}
+use Rattle.std.specs.Option.{option_map_or}
+use Rattle.map.specs.declared.Block.{Block}
+
+-- a block is one
+pub same_block : {first count f n : ℕ} → fixed first count ≡ fixed f n → (f ≡ first) × (n ≡ count)
+same_block e =
+    (ap (λ (k : Option Block). option_map_or (λ (b : Block). b.first) k 0) (sym e), ap (λ (k : Option Block). option_map_or (λ (b : Block). b.count) k 0) (sym e))
 
 -- ---- the places of the blocks
 
@@ -38,7 +44,7 @@ module _ (a : ℕ) (alone : T (passes (λ k home. either (not (eqb home a)) (eqb
   unfolding home_of homes
   no_mirror k h e = eqb→eq k a (rw (eq-eqb (home_of k) a e) at (entry (λ k home. either (not (eqb home a)) (eqb k a)) homes alone k h))
 
-  no_place : (command : ℕ) {first count : ℕ} → block_of command ≡ Fixed first count → (k : ℕ) → k < count → home_of (first + k) ≡ a → ⊥
+  no_place : (command : ℕ) {first count : ℕ} → block_of command ≡ fixed first count → (k : ℕ) → k < count → home_of (first + k) ≡ a → ⊥
   no_place command {first} {count} listed k h e =
       let w = block_within command listed in
       apart_place a first count k (block_test (apart a) out command listed) h (no_mirror (first + k) (omega arith) e)
@@ -48,7 +54,7 @@ pub record Apart (place : ℕ) : Type 0 where
   pub source : home_of place ≡ TEMPERATURE_SOURCE_SELECT → ⊥
   pub lock : home_of place ≡ CONFIGURATION → ⊥
 
-pub blocks_apart : (command : ℕ) {first count : ℕ} → block_of command ≡ Fixed first count → (k : ℕ) → k < count → Apart (first + k)
+pub blocks_apart : (command : ℕ) {first count : ℕ} → block_of command ≡ fixed first count → (k : ℕ) → k < count → Apart (first + k)
 unfolding homes block_firsts block_counts
 blocks_apart command listed k h = record {
   source = no_place TEMPERATURE_SOURCE_SELECT tt tt command listed k h;

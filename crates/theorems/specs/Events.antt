@@ -1,14 +1,13 @@
 -- What each event leaves of a chip is no hotter than what it leaves of one that is no cooler. Every definition tests registers, pin and the
 -- event's own numbers, and no register that has an error bit of a zone, so both chips go the same way. A zone's reading is tested by its
 -- limits alone, and nothing but the zones' error bits follows from that. Assumes nothing.
-use Rattle.std.specs.Prelude.{◌≡◌, Bool, List, ℕ, ltb, length}
+use Rattle.std.specs.Prelude.{◌≡◌, Bool, List, ℕ, ltb, length, Option, Some, None}
 use Rattle.std.proofs.Math.Path.{ap}
 use Rattle.std.proofs.Common.{arith}
 use Rattle.laws.specs.Pointwise.{pick_related}
 use Rattle.map.specs.declared.Kind.{Kind}
 use Rattle.map.specs.declared.Kind.TheVariants.{Plain, Status, Whole, Half, Volt, FanLow, FanHigh, VoltLow, VoltHigh, FanLimitLow, FanLimitHigh}
 use Rattle.map.specs.declared.Block.{Block}
-use Rattle.map.specs.declared.Block.TheVariants.{Unlisted, Fixed}
 use Rattle.map.specs.Names.{TEMPERATURE_SOURCE_SELECT, CONFIGURATION}
 use Rattle.map.specs.Map.{writable_of, home_of}
 use Rattle.map.specs.Kind.{kind_of}
@@ -16,8 +15,6 @@ use Rattle.temperature.specs.declared.Reading.{Reading}
 use Rattle.temperature.specs.Order.{NoHotter, no_hotter_refl, half_mono}
 use Rattle.state.specs.declared.Chip.{Chip}
 use Rattle.state.specs.declared.Drive.{Drive}
-use Rattle.state.specs.declared.Zone.{Zone}
-use Rattle.state.specs.declared.Count.{Count}
 use Rattle.state.specs.Parts.{register_at, zone_at, in_error}
 use Rattle.state.specs.With.{with_register, with_zone, with_volt, with_in_error, with_fan, with_hot_input}
 use Rattle.state.specs.Order.{DriveNoHigher, SameButZones}
@@ -35,7 +32,7 @@ use Rattle.theorems.specs.Beside.{ZonesCooler, zones_set, Under, same_but, besid
 
 -- ---- c, beside a chip d that differs from it in zones, their error bits and drive
 
-module _ (c : Chip) {file : List ℕ} {zs : List Zone} {x : Drive} (b : SameButZones c.registers file) (z : ZonesCooler c.zones zs) (n : DriveNoHigher c.drive x) where
+module _ (c : Chip) {file : List ℕ} {zs : List Reading} {x : Drive} (b : SameButZones c.registers file) (z : ZonesCooler c.zones zs) (n : DriveNoHigher c.drive x) where
   abbrev d : Chip
   d = beside c file zs x
 
@@ -64,7 +61,7 @@ module _ (c : Chip) {file : List ℕ} {zs : List Zone} {x : Drive} (b : SameButZ
       rw (← source_same) (pick_related Under (zone_heard (register_at c TEMPERATURE_SOURCE_SELECT) zone) (zone_under zone p) itself)
 
   -- V, the zone that a channel feeds: the same reading
-  fed_under : (channel : ℕ) (count : Count) → Under (fed_zone c channel count) (fed_zone d channel count)
+  fed_under : (channel : ℕ) (count : Option ℕ) → Under (fed_zone c channel count) (fed_zone d channel count)
   unfolding fed_zone
   fed_under channel count =
       rw (← source_same)
@@ -72,7 +69,7 @@ module _ (c : Chip) {file : List ℕ} {zs : List Zone} {x : Drive} (b : SameButZ
       (pick_related Under (feeds_four (register_at c TEMPERATURE_SOURCE_SELECT) channel) (zone_under 5 (no_hotter_refl _)) itself))
 
   -- F
-  pub fan_under : (fan : ℕ) (count : Count) → Under (took_fan c fan count) (took_fan d fan count)
+  pub fan_under : (fan : ℕ) (count : Option ℕ) → Under (took_fan c fan count) (took_fan d fan count)
   unfolding took_fan with_fan
   fan_under fan count = pick_related Under (ltb fan 4) (same_but (but_compared b fan count) z n) itself
 
@@ -137,9 +134,9 @@ module _ (c : Chip) {file : List ℕ} {zs : List Zone} {x : Drive} (b : SameButZ
   register_under a byte =
       rw (← configuration_same) (pick_related Alters (is_shut (register_at c CONFIGURATION) (home_of a)) itself (kind_under (home_of a) byte (kind_of (home_of a))))
 
-module _ (c : Chip) {file : List ℕ} {zs : List Zone} {x : Drive} (b : SameButZones c.registers file) (z : ZonesCooler c.zones zs) (n : DriveNoHigher c.drive x) where
+module _ (c : Chip) {file : List ℕ} {zs : List Reading} {x : Drive} (b : SameButZones c.registers file) (z : ZonesCooler c.zones zs) (n : DriveNoHigher c.drive x) where
   -- V
-  pub voltage_under : (channel : ℕ) (count : Count) → Under (took_voltage c channel count) (took_voltage (beside c file zs x) channel count)
+  pub voltage_under : (channel : ℕ) (count : Option ℕ) → Under (took_voltage c channel count) (took_voltage (beside c file zs x) channel count)
   unfolding took_voltage read_volt with_volt with_in_error in_error
   voltage_under channel count =
       rw (← but_erring b channel (in_error c channel) count)
@@ -174,9 +171,9 @@ module _ (c : Chip) {file : List ℕ} {zs : List Zone} {x : Drive} (b : SameButZ
   write_block_under address command bytes =
       go (counted_block (length bytes) (block_for (transacted c address).pin.latch address command))
     where
-      go : (b : Block) → Under (wrote_by (transacted c address) b bytes).chip (wrote_by (transacted (beside c file zs x) address) b bytes).chip
-      go Unlisted = transacted_under c b z n address
-      go (Fixed first count) =
+      go : (block : Option Block) → Under (wrote_by (transacted c address) block bytes).chip (wrote_by (transacted (beside c file zs x) address) block bytes).chip
+      go None = transacted_under c b z n address
+      go (Some block) =
           both_keep Under
           (λ e f a byte u. under_beside (λ (k : Chip). Under (wrote_register e a byte) (wrote_register k a byte)) (λ g ws y q w m. register_under e q w m a byte) u)
-          _ _ first 0 bytes (transacted_under c b z n address)
+          _ _ block.first 0 bytes (transacted_under c b z n address)

@@ -1,14 +1,11 @@
 -- What events leave of the voltages, of the channels in error and of the fan counts: a reading that is missing stays so until its own event
 -- gives one. Assumes nothing.
-use Rattle.std.specs.Prelude.{◌≡◌, refl, true, List, [], ◌∷◌, ltb, get_or, set}
+use Rattle.std.specs.Prelude.{◌≡◌, refl, true, List, [], ◌∷◌, ltb, get_or, set, Option, Some, None}
 use Rattle.std.proofs.Common.{ap, ◌∙◌, arith}
 use Prim.Native.Nat.{ℕ, zero, suc, ◌-◌}
 use Rattle.laws.specs.Pointwise.{pick_each}
 use Rattle.laws.specs.Store.{set_cases}
 use Rattle.state.specs.declared.Chip.{Chip}
-use Rattle.state.specs.declared.Gauge.{Gauge}
-use Rattle.state.specs.declared.Count.{Count}
-use Rattle.state.specs.declared.Count.TheVariants.{Taken, Missing}
 use Rattle.state.specs.Parts.{no_gauge, volt_at, fan_at}
 use Rattle.state.specs.With.{with_zone, with_volt, with_in_error, with_fan}
 use Rattle.sense.specs.Missing.{missed}
@@ -36,8 +33,8 @@ pub record SameGauges (c d : Chip) : Type 0 where
 
 -- an event gives a voltage, or a fan count, or neither
 pub data Gives : Event → Type 0 where
-  volt : (channel : ℕ) (n : Count) → Gives (Voltage channel n)
-  fan : (number : ℕ) (n : Count) → Gives (Fan number n)
+  volt : (channel : ℕ) (n : Option ℕ) → Gives (Voltage channel n)
+  fan : (number : ℕ) (n : Option ℕ) → Gives (Fan number n)
   neither : {e : Event} → ((c : Chip) (bytes : List ℕ) → SameGauges c (taken_step c e bytes).chip) → Gives e
 
 -- T, U, H, A, K, X, W, R, G and P leave them
@@ -65,39 +62,39 @@ gives (WriteBlock address command) =
 -- ---- V and F
 
 -- a missing reading stays so if what is stored in its own place is missing
-stays : (l : List Gauge) (i j : ℕ) (n : Count) → (get_or l i no_gauge).count ≡ Missing → (j ≡ i → n ≡ Missing) → (get_or (set l j (record { count = n })) i no_gauge).count ≡ Missing
-stays l i j n m own = set_cases (λ (g : Gauge). g.count ≡ Missing) l j i (record { count = n }) no_gauge m own
+stays : (l : List (Option ℕ)) (i j : ℕ) (n : Option ℕ) → (get_or l i no_gauge) ≡ None → (j ≡ i → n ≡ None) → (get_or (set l j n) i no_gauge) ≡ None
+stays l i j n m own = set_cases (λ (g : Option ℕ). g ≡ None) l j i n no_gauge m own
 
 -- the zone that a voltage feeds is none of the voltages
-fed_volts : (c : Chip) (channel : ℕ) (n : Count) → (fed_zone c channel n).volts ≡ c.volts
+fed_volts : (c : Chip) (channel : ℕ) (n : Option ℕ) → (fed_zone c channel n).volts ≡ c.volts
 unfolding read_zone with_zone
 fed_volts c channel n = fed_each (λ (d : Chip). d.volts ≡ c.volts) c channel n refl refl refl
 
 -- what an event gives reading i is missing, if the event gives it no taken one; events count from 1
-unless_taken : (event : ℕ → Count → Event) (i k : ℕ) (n : Count) → ((m : ℕ) → event (suc k) n ≡ event (suc i) (Taken m) → ⊥) → suc k - 1 ≡ i → n ≡ Missing
-unless_taken event i k Missing h e = refl
-unless_taken event i k (Taken m) h e = absurd (h m (ap (λ (j : ℕ). event (suc j) (Taken m)) (omega arith)))
+unless_taken : (event : ℕ → Option ℕ → Event) (i k : ℕ) (n : Option ℕ) → ((m : ℕ) → event (suc k) n ≡ event (suc i) (Some m) → ⊥) → suc k - 1 ≡ i → n ≡ None
+unless_taken event i k None h e = refl
+unless_taken event i k (Some m) h e = absurd (h m (ap (λ (j : ℕ). event (suc j) (Some m)) (omega arith)))
 
 module _ (c : Chip) (i : ℕ) where
   -- V
-  voltage_missing : (j : ℕ) (n : Count) → volt_at c i ≡ Missing → (j ≡ i → n ≡ Missing) → volt_at (took_voltage c j n) i ≡ Missing
+  voltage_missing : (j : ℕ) (n : Option ℕ) → volt_at c i ≡ None → (j ≡ i → n ≡ None) → volt_at (took_voltage c j n) i ≡ None
   unfolding took_voltage read_volt with_volt with_in_error volt_at
   voltage_missing j n m own =
-      pick_each (λ (d : Chip). volt_at d i ≡ Missing) (ltb j 16) (rw (fed_volts _ j n) (stays c.volts i j n m own)) m
+      pick_each (λ (d : Chip). volt_at d i ≡ None) (ltb j 16) (rw (fed_volts _ j n) (stays c.volts i j n m own)) m
 
   -- F
-  fan_missing : (j : ℕ) (n : Count) → fan_at c i ≡ Missing → (j ≡ i → n ≡ Missing) → fan_at (took_fan c j n) i ≡ Missing
+  fan_missing : (j : ℕ) (n : Option ℕ) → fan_at c i ≡ None → (j ≡ i → n ≡ None) → fan_at (took_fan c j n) i ≡ None
   unfolding took_fan with_fan fan_at
-  fan_missing j n m own = pick_each (λ (d : Chip). fan_at d i ≡ Missing) (ltb j 4) (stays c.fans i j n m own) m
+  fan_missing j n m own = pick_each (λ (d : Chip). fan_at d i ≡ None) (ltb j 4) (stays c.fans i j n m own) m
 
-  volt_left : {e : Event} (bytes : List ℕ) → Gives e → ((n : ℕ) → e ≡ Voltage (suc i) (Taken n) → ⊥) → event_in e ≡ true → volt_at c i ≡ Missing → volt_at (taken_step c e bytes).chip i ≡ Missing
+  volt_left : {e : Event} (bytes : List ℕ) → Gives e → ((n : ℕ) → e ≡ Voltage (suc i) (Some n) → ⊥) → event_in e ≡ true → volt_at c i ≡ None → volt_at (taken_step c e bytes).chip i ≡ None
   unfolding event_in index_in taken_step quiet_step volt_at
   volt_left bytes (volt zero n) h r m = absurd (never (cc))
   volt_left bytes (volt (suc k) n) h r m = voltage_missing (suc k - 1) n m (unless_taken Voltage i k n h)
   volt_left bytes (fan number n) h r m = rw (fan_keeps c (number - 1) n).volts m
   volt_left bytes (neither f) h r m = rw ((f c bytes).volts, volt_at) m
 
-  fan_left : {e : Event} (bytes : List ℕ) → Gives e → ((n : ℕ) → e ≡ Fan (suc i) (Taken n) → ⊥) → event_in e ≡ true → fan_at c i ≡ Missing → fan_at (taken_step c e bytes).chip i ≡ Missing
+  fan_left : {e : Event} (bytes : List ℕ) → Gives e → ((n : ℕ) → e ≡ Fan (suc i) (Some n) → ⊥) → event_in e ≡ true → fan_at c i ≡ None → fan_at (taken_step c e bytes).chip i ≡ None
   unfolding event_in index_in taken_step quiet_step fan_at
   fan_left bytes (volt channel n) h r m = rw (voltage_keeps c (channel - 1) n).fans m
   fan_left bytes (fan zero n) h r m = absurd (never (cc))
@@ -105,11 +102,11 @@ module _ (c : Chip) (i : ℕ) where
   fan_left bytes (neither f) h r m = rw ((f c bytes).fans, fan_at) m
 
   -- a missing voltage stays missing under an event that does not give it a taken reading
-  pub volt_stays : (g : Given) → (IsTaken g → (n : ℕ) → g.event ≡ Voltage (suc i) (Taken n) → ⊥) → volt_at c i ≡ Missing → volt_at (given_step c g).chip i ≡ Missing
+  pub volt_stays : (g : Given) → (IsTaken g → (n : ℕ) → g.event ≡ Voltage (suc i) (Some n) → ⊥) → volt_at c i ≡ None → volt_at (given_step c g).chip i ≡ None
   volt_stays g h m =
-      step_cases c g.event g.bytes (λ (d : Chip). volt_at d i ≡ Missing) m (λ t. volt_left g.bytes (gives g.event) (h t) (taken_in g.event g.bytes t) m)
+      step_cases c g.event g.bytes (λ (d : Chip). volt_at d i ≡ None) m (λ t. volt_left g.bytes (gives g.event) (h t) (taken_in g.event g.bytes t) m)
 
   -- a missing fan count stays missing under an event that does not give it a taken reading
-  pub fan_stays : (g : Given) → (IsTaken g → (n : ℕ) → g.event ≡ Fan (suc i) (Taken n) → ⊥) → fan_at c i ≡ Missing → fan_at (given_step c g).chip i ≡ Missing
+  pub fan_stays : (g : Given) → (IsTaken g → (n : ℕ) → g.event ≡ Fan (suc i) (Some n) → ⊥) → fan_at c i ≡ None → fan_at (given_step c g).chip i ≡ None
   fan_stays g h m =
-      step_cases c g.event g.bytes (λ (d : Chip). fan_at d i ≡ Missing) m (λ t. fan_left g.bytes (gives g.event) (h t) (taken_in g.event g.bytes t) m)
+      step_cases c g.event g.bytes (λ (d : Chip). fan_at d i ≡ None) m (λ t. fan_left g.bytes (gives g.event) (h t) (taken_in g.event g.bytes t) m)

@@ -1,5 +1,5 @@
 -- What events leave of the error bits of a sensor that is masked: none of them is new. Assumes nothing.
-use Rattle.std.specs.Prelude.{◌≡◌, Bool, not, List, ℕ, ◌+◌, ◌^◌, ◌≤◌, ◌<◌, ltb, get_or}
+use Rattle.std.specs.Prelude.{◌≡◌, Bool, not, List, ℕ, ◌+◌, ◌^◌, ◌≤◌, ◌<◌, ltb, get_or, Option, Some, None}
 use Rattle.std.proofs.Math.Path.{refl}
 use Rattle.std.proofs.Common.{sym, ap, subst, ◌∙◌, arith, ltb→lt, get_or-set_other}
 use Rattle.std.proofs.Math.Bool.{true, false}
@@ -16,16 +16,14 @@ use Rattle.laws.specs.Table.{entry}
 use Rattle.map.specs.declared.Kind.{Kind}
 use Rattle.map.specs.declared.Kind.TheVariants as kind
 use Rattle.map.specs.declared.Block.{Block}
-use Rattle.map.specs.declared.Block.TheVariants.{Unlisted, Fixed}
 use Rattle.map.specs.Names.{TEMPERATURE_SOURCE_SELECT, CONFIGURATION, SLEEP_STATE_CONTROL}
 use Rattle.map.specs.Tables.{homes}
 use Rattle.map.specs.Map.{writable_of, home_of}
 use Rattle.map.specs.Bits.{is_set}
 use Rattle.map.specs.Kind.{kind_of}
-use Rattle.map.specs.Blocks.{block_firsts, block_counts, block_of, block_test, block_within}
+use Rattle.map.specs.Blocks.{fixed, block_firsts, block_counts, block_of, block_test, block_within}
 use Rattle.temperature.specs.declared.Reading.{Reading}
 use Rattle.state.specs.declared.Chip.{Chip}
-use Rattle.state.specs.declared.Count.{Count}
 use Rattle.state.specs.Parts.{register_at, in_error}
 use Rattle.state.specs.With.{with_register, with_zone, with_volt, with_in_error, with_fan}
 use Rattle.sense.specs.Events.{read_zone, zone_heard, took_temperature, volt_reading, fed_zone, fed_each, read_volt, took_voltage, took_fan, took_reset}
@@ -41,53 +39,54 @@ use Rattle.bus.proofs.Blocks.{block_keeps}
 use Rattle.theorems.specs.ShownBytes.{status_kind}
 use Rattle.theorems.specs.BlockPlaces.{write_leaves}
 use Rattle.theorems.specs.Sensors.{Sensor, is_masked, error_place}
+use Rattle.theorems.specs.BlockPlaces.{same_block}
 use Rattle.theorems.specs.MaskedSensors.{HasBit, bit_status, masked_same, masked_marks, erred_none, compared_none, zone_file_none}
 
 -- ---- readings and X
 
 module _ (x : Sensor) {a : ℕ} (b : HasBit x a) (c : Chip) (m : is_masked x c.registers ≡ true) where
   -- the bit of x in register a is not new
-  abbrev pub None : Chip → Type 0
-  None d = NoNew a (error_place x) c.registers d.registers
+  abbrev pub NoneAdded : Chip → Type 0
+  NoneAdded d = NoNew a (error_place x) c.registers d.registers
 
   -- a zone gets a reading
-  zone_read_none : (i : ℕ) (r : Reading) → None (read_zone c i r)
+  zone_read_none : (i : ℕ) (r : Reading) → NoneAdded (read_zone c i r)
   unfolding read_zone with_zone
   zone_read_none i r = zone_file_none x b c.registers m i r
 
   -- T and U
-  pub temperature_none : (i : ℕ) (r : Reading) → None (took_temperature c i r)
+  pub temperature_none : (i : ℕ) (r : Reading) → NoneAdded (took_temperature c i r)
   unfolding took_temperature
   temperature_none i r =
-      pick_each None (zone_heard (register_at c TEMPERATURE_SOURCE_SELECT) i) (zone_read_none i r) (none_same refl)
+      pick_each NoneAdded (zone_heard (register_at c TEMPERATURE_SOURCE_SELECT) i) (zone_read_none i r) (none_same refl)
 
   -- F
-  pub fan_none : (i : ℕ) (n : Count) → None (took_fan c i n)
+  pub fan_none : (i : ℕ) (n : Option ℕ) → NoneAdded (took_fan c i n)
   unfolding took_fan with_fan
-  fan_none i n = pick_each None (ltb i 4) (compared_none x b c.registers m i n) (none_same refl)
+  fan_none i n = pick_each NoneAdded (ltb i 4) (compared_none x b c.registers m i n) (none_same refl)
 
   -- X
-  pub reset_none : None (took_reset c)
+  pub reset_none : NoneAdded (took_reset c)
   unfolding took_reset
   reset_none = none_same (reset_other c.registers a (λ e. omega (arith, (bit_status x b).high)) (λ e. omega (arith, (bit_status x b).high)))
 
 module _ (x : Sensor) {a : ℕ} (b : HasBit x a) (c : Chip) (m : is_masked x c.registers ≡ true) where
   -- V: the zone that it feeds comes behind its own comparison
-  pub voltage_none : (i : ℕ) (n : Count) → None x b c m (took_voltage c i n)
+  pub voltage_none : (i : ℕ) (n : Option ℕ) → NoneAdded x b c m (took_voltage c i n)
   unfolding took_voltage read_volt with_volt with_in_error
   voltage_none i n = go (ltb i 16) refl
     where
-      read_none : i < 16 → None x b c m (fed_zone (read_volt c i n) i n)
+      read_none : i < 16 → NoneAdded x b c m (fed_zone (read_volt c i n) i n)
       read_none l =
           let marks = erred_volt_marks c.registers i l (in_error c i) n in
           let still = masked_marks x marks m in
           let own = erred_none x b c.registers m i l (in_error c i) n in
-          fed_each (None x b c m) (read_volt c i n) i n
+          fed_each (NoneAdded x b c m) (read_volt c i n) i n
           (none_then own (zone_read_none x b (read_volt c i n) still 4 (volt_reading n)))
           (none_then own (zone_read_none x b (read_volt c i n) still 5 (volt_reading n)))
           own
 
-      go : (there : Bool) → ltb i 16 ≡ there → None x b c m (pick there (fed_zone (read_volt c i n) i n) c)
+      go : (there : Bool) → ltb i 16 ≡ there → NoneAdded x b c m (pick there (fed_zone (read_volt c i n) i n) c)
       go true e = read_none (ltb-true i 16 e)
       go false e = none_same refl
 
@@ -153,7 +152,7 @@ module _ (x : Sensor) {a : ℕ} (b : HasBit x a) (d : Chip) where
 -- ---- blocks
 
 -- of each block: it ends before E4h, so that it leaves the masks, or begins behind 53h, so that it has no zone
-apart : (command : ℕ) {first count : ℕ} → block_of command ≡ Fixed first count → T (either (leb (first + count) SLEEP_STATE_CONTROL) (leb 0x54 first))
+apart : (command : ℕ) {first count : ℕ} → block_of command ≡ fixed first count → T (either (leb (first + count) SLEEP_STATE_CONTROL) (leb 0x54 first))
 unfolding block_firsts block_counts
 apart command listed = block_test (λ first count. either (leb (first + count) SLEEP_STATE_CONTROL) (leb 0x54 first)) tt command listed
 
@@ -182,7 +181,7 @@ module _ (x : Sensor) {a : ℕ} (b : HasBit x a) (c : Chip) (m : is_masked x c.r
   }
 
   -- a byte behind 53h
-  byte_none : (d : Chip) (place byte : ℕ) → 0x54 ≤ place → place < 256 → None x b c m d → None x b c m (wrote_register d place byte)
+  byte_none : (d : Chip) (place byte : ℕ) → 0x54 ≤ place → place < 256 → NoneAdded x b c m d → NoneAdded x b c m (wrote_register d place byte)
   byte_none d place byte l h n = none_then n (register_none x b d place byte (λ t. absurd (not_both (is_zone (kind_of (home_of place))) t (no_zone_lem place l h))))
     where
       not_both : (z : Bool) → T z → T (not z) → ⊥
@@ -190,27 +189,27 @@ module _ (x : Sensor) {a : ℕ} (b : HasBit x a) (c : Chip) (m : is_masked x c.r
       not_both false t u = t
 
   -- W
-  pub write_none : (address r byte : ℕ) → None x b c m (wrote_byte c address r byte).chip
+  pub write_none : (address r byte : ℕ) → NoneAdded x b c m (wrote_byte c address r byte).chip
   unfolding transacted
   write_none address r byte =
-      write_cases c address (None x b c m) r byte (none_same refl) (register_none x b (transacted c address) r byte (λ t. zone_read_none x b (transacted c address) m))
+      write_cases c address (NoneAdded x b c m) r byte (none_same refl) (register_none x b (transacted c address) r byte (λ t. zone_read_none x b (transacted c address) m))
 
   -- P
-  pub block_none : (address command : ℕ) (bytes : List ℕ) → None x b c m (wrote_block c address command bytes).chip
+  pub block_none : (address command : ℕ) (bytes : List ℕ) → NoneAdded x b c m (wrote_block c address command bytes).chip
   unfolding transacted
   block_none address command bytes = go (block_of command) refl
     where
-      by : (first count : ℕ) → block_of command ≡ Fixed first count → (t : Bool) → leb (first + count) SLEEP_STATE_CONTROL ≡ t → T (either t (leb 0x54 first)) → None x b c m (wrote_block c address command bytes).chip
+      by : (first count : ℕ) → block_of command ≡ fixed first count → (t : Bool) → leb (first + count) SLEEP_STATE_CONTROL ≡ t → T (either t (leb 0x54 first)) → NoneAdded x b c m (wrote_block c address command bytes).chip
       by first count listed true e u =
           (block_keeps c address command bytes (Still x a c) (λ place byte. place < SLEEP_STATE_CONTROL)
-          (λ f ours l i h. let q : f ≡ first = cc in let r : length bytes ≡ count = cc in omega (arith, leb-true (first + count) SLEEP_STATE_CONTROL e))
+          (λ f ours l i h. let q = same_block (sym listed ∙ l) in omega (arith, q, leb-true (first + count) SLEEP_STATE_CONTROL e))
           (record { none = none_same refl; masked = m }) (λ d place byte. byte_still d place byte)).none
       by first count listed false e u =
-          block_keeps c address command bytes (None x b c m) (λ place byte. (0x54 ≤ place) × (place < 256))
-          (λ f ours l i h. let q : f ≡ first = cc in let r : length bytes ≡ count = cc in (omega (arith, leb→le 0x54 first u), omega (arith, (block_within command listed).ends)))
+          block_keeps c address command bytes (NoneAdded x b c m) (λ place byte. (0x54 ≤ place) × (place < 256))
+          (λ f ours l i h. let q = same_block (sym listed ∙ l) in (omega (arith, q, leb→le 0x54 first u), omega (arith, q, (block_within command listed).ends)))
           (none_same refl) (λ d place byte q. byte_none d place byte q.0 q.1)
 
-      go : (k : Block) → block_of command ≡ k → None x b c m (wrote_block c address command bytes).chip
-      go Unlisted e =
-          block_keeps c address command bytes (None x b c m) (λ place byte. ⊥) (λ f ours l i h. never (cc)) (none_same refl) (λ d place byte q. absurd q)
-      go (Fixed first count) e = by first count e (leb (first + count) SLEEP_STATE_CONTROL) refl (apart command e)
+      go : (k : Option Block) → block_of command ≡ k → NoneAdded x b c m (wrote_block c address command bytes).chip
+      go None e =
+          block_keeps c address command bytes (NoneAdded x b c m) (λ place byte. ⊥) (λ f ours l i h. never (cc)) (none_same refl) (λ d place byte q. absurd q)
+      go (Some block) e = by block.first block.count e (leb (block.first + block.count) SLEEP_STATE_CONTROL) refl (apart command e)

@@ -1,5 +1,5 @@
 -- What marks do to the error bits of a sensor that is masked: nothing. Assumes nothing.
-use Rattle.std.specs.Prelude.{◌≡◌, Bool, true, List, ltb}
+use Rattle.std.specs.Prelude.{◌≡◌, Bool, true, List, ltb, Option, Some, None}
 use Rattle.std.proofs.Math.Path.{refl}
 use Rattle.std.proofs.Common.{◌∙◌}
 use Prim.Native.Nat.{ℕ, zero, suc, ◌≤◌, ◌<◌}
@@ -10,10 +10,6 @@ use Rattle.masks.specs.Table.{SameMasks, volt_same, fan_same, zone_same}
 use Rattle.temperature.specs.declared.Reading.{Reading}
 use Rattle.temperature.specs.declared.Reading.TheVariants as reading
 use Rattle.state.specs.declared.Chip.{Chip}
-use Rattle.state.specs.declared.Zone.{Zone}
-use Rattle.state.specs.declared.Gauge.{Gauge}
-use Rattle.state.specs.declared.Count.{Count}
-use Rattle.state.specs.declared.Count.TheVariants.{Taken, Missing}
 use Rattle.sense.specs.Errors.{marked_volt, marked_fan, low_limit, high_limit, fan_limit_at, compared_fan}
 use Rattle.sense.specs.Hysteresis.{erring_after, erred_volt}
 use Rattle.sense.specs.ZoneLimits.{zone_number, low_temp, high_temp, zone_watched, is_beyond, marked_zone, compared_zone, zone_file}
@@ -83,63 +79,63 @@ module _ (file : List ℕ) where
 
 module _ (x : Sensor) {a : ℕ} (b : HasBit x a) (file : List ℕ) (m : is_masked x file ≡ true) where
   -- none of x's bits is new
-  abbrev None : List ℕ → Type 0
-  None next = NoNew a (error_place x) file next
+  abbrev NoneAdded : List ℕ → Type 0
+  NoneAdded next = NoNew a (error_place x) file next
 
-  unmarked : None file
+  unmarked : NoneAdded file
   unmarked = none_same refl
 
-  pub erred_none : (i : ℕ) → i < 16 → (before : Bool) (n : Count) → None (erred_volt file i before n)
+  pub erred_none : (i : ℕ) → i < 16 → (before : Bool) (n : Option ℕ) → NoneAdded (erred_volt file i before n)
   unfolding erred_volt
-  erred_none i l before Missing = unmarked
-  erred_none i l before (Taken n) = pick_each None (erring_after file i before (Taken n)) (volt_none file x b m i l) unmarked
+  erred_none i l before None = unmarked
+  erred_none i l before (Some n) = pick_each NoneAdded (erring_after file i before (Some n)) (volt_none file x b m i l) unmarked
 
-  pub compared_none : (i : ℕ) (n : Count) → None (compared_fan file i n)
+  pub compared_none : (i : ℕ) (n : Option ℕ) → NoneAdded (compared_fan file i n)
   unfolding compared_fan
-  compared_none i Missing = unmarked
-  compared_none i (Taken n) = pick_each None (ltb (fan_limit_at file i) n) (fan_none file x b m i) unmarked
+  compared_none i None = unmarked
+  compared_none i (Some n) = pick_each NoneAdded (ltb (fan_limit_at file i) n) (fan_none file x b m i) unmarked
 
-  compared_zone_none : (i : ℕ) (r : Reading) → None (compared_zone file i r)
+  compared_zone_none : (i : ℕ) (r : Reading) → NoneAdded (compared_zone file i r)
   unfolding compared_zone
   compared_zone_none i reading.Missing = unmarked
   compared_zone_none i (reading.Taken n) =
-      pick_each None (both (zone_watched file i) (is_beyond (low_temp file i) (high_temp file i) n)) (zone_none file x b m i) unmarked
+      pick_each NoneAdded (both (zone_watched file i) (is_beyond (low_temp file i) (high_temp file i) n)) (zone_none file x b m i) unmarked
 
-  pub zone_file_none : (i : ℕ) (r : Reading) → None (zone_file file i r)
+  pub zone_file_none : (i : ℕ) (r : Reading) → NoneAdded (zone_file file i r)
   unfolding zone_file
-  zone_file_none i r = pick_each None (ltb i 6) (compared_zone_none i r) unmarked
+  zone_file_none i r = pick_each NoneAdded (ltb i 6) (compared_zone_none i r) unmarked
 
-  missed_volt_none : (i : ℕ) → i < 16 → (n : Count) → None (missed_volt file i n)
+  missed_volt_none : (i : ℕ) → i < 16 → (n : Option ℕ) → NoneAdded (missed_volt file i n)
   unfolding missed_volt
-  missed_volt_none i l Missing = pick_each None (volt_watched (low_limit file i) (high_limit file i)) (volt_none file x b m i l) unmarked
-  missed_volt_none i l (Taken n) = unmarked
+  missed_volt_none i l None = pick_each NoneAdded (volt_watched (low_limit file i) (high_limit file i)) (volt_none file x b m i l) unmarked
+  missed_volt_none i l (Some n) = unmarked
 
-  missed_fan_none : (i : ℕ) (n : Count) → None (missed_fan file i n)
+  missed_fan_none : (i : ℕ) (n : Option ℕ) → NoneAdded (missed_fan file i n)
   unfolding missed_fan
-  missed_fan_none i Missing = pick_each None (fan_watched (fan_limit_at file i)) (fan_none file x b m i) unmarked
-  missed_fan_none i (Taken n) = unmarked
+  missed_fan_none i None = pick_each NoneAdded (fan_watched (fan_limit_at file i)) (fan_none file x b m i) unmarked
+  missed_fan_none i (Some n) = unmarked
 
-  missed_zone_none : (i : ℕ) (r : Reading) → None (missed_zone file i r)
+  missed_zone_none : (i : ℕ) (r : Reading) → NoneAdded (missed_zone file i r)
   unfolding missed_zone
-  missed_zone_none i reading.Missing = pick_each None (zone_watched file i) (zone_none file x b m i) unmarked
+  missed_zone_none i reading.Missing = pick_each NoneAdded (zone_watched file i) (zone_none file x b m i) unmarked
   missed_zone_none i (reading.Taken n) = unmarked
 
 module _ (x : Sensor) {a : ℕ} (b : HasBit x a) (file : List ℕ) (m : is_masked x file ≡ true) where
-  missed_volts_none : (gauges : List Gauge) (n : ℕ) → n ≤ 16 → NoNew a (error_place x) file (missed_volts file gauges n)
+  missed_volts_none : (gauges : List (Option ℕ)) (n : ℕ) → n ≤ 16 → NoNew a (error_place x) file (missed_volts file gauges n)
   unfolding missed_volts
   missed_volts_none gauges zero h = none_same refl
   missed_volts_none gauges (suc n) h =
       let k = missed_volts_marks file gauges 0 n (omega arith) (omega arith) in
       none_then (missed_volts_none gauges n (omega arith)) (missed_volt_none x b _ (masked_marks x k m) n (omega arith) _)
 
-  missed_fans_none : (gauges : List Gauge) (n : ℕ) → n ≤ 4 → NoNew a (error_place x) file (missed_fans file gauges n)
+  missed_fans_none : (gauges : List (Option ℕ)) (n : ℕ) → n ≤ 4 → NoNew a (error_place x) file (missed_fans file gauges n)
   unfolding missed_fans
   missed_fans_none gauges zero h = none_same refl
   missed_fans_none gauges (suc n) h =
       let k = missed_fans_marks file gauges 0 n (omega arith) (omega arith) in
       none_then (missed_fans_none gauges n (omega arith)) (missed_fan_none x b _ (masked_marks x k m) n _)
 
-  missed_zones_none : (zones : List Zone) (n : ℕ) → n ≤ 6 → NoNew a (error_place x) file (missed_zones file zones n)
+  missed_zones_none : (zones : List Reading) (n : ℕ) → n ≤ 6 → NoNew a (error_place x) file (missed_zones file zones n)
   unfolding missed_zones
   missed_zones_none zones zero h = none_same refl
   missed_zones_none zones (suc n) h =

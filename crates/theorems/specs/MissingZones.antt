@@ -1,6 +1,6 @@
 -- A zone that is missing: what it shows, what it asks of the fans, and until when it is missing. Zones count from 0 in the order 1a, 1b, 2a,
 -- 2b, 3, 4, tables and fans from 0. Assumes nothing.
-use Rattle.std.specs.Prelude.{◌≡◌, refl, List, [], ℕ, zero, suc, ◌^◌, ◌<◌, T, get_or}
+use Rattle.std.specs.Prelude.{◌≡◌, refl, List, [], ℕ, zero, suc, ◌^◌, ◌<◌, T, get_or, None}
 use Rattle.std.proofs.Common.{arith}
 use Rattle.map.specs.Tables.{homes}
 use Rattle.map.specs.Map.{home_of}
@@ -11,7 +11,6 @@ use Rattle.temperature.specs.declared.Reading.TheVariants.{Missing}
 use Rattle.temperature.specs.Temperature.{whole_byte, half_set}
 use Rattle.state.specs.declared.Chip.{Chip}
 use Rattle.state.specs.declared.Setup.{Setup}
-use Rattle.state.specs.declared.Override.TheVariants.{Off}
 use Rattle.state.specs.Parts.{no_override, zone_at}
 use Rattle.state.specs.PowerOn.{power_on}
 use Rattle.state.specs.Powered.{powered_on, powered_valid}
@@ -74,9 +73,9 @@ full_duty c (suc (suc fan)) l e = absurd (omega arith)
 
 -- At each tick at which the reading that a bound table follows is missing, the fan's duty is 256, unless an override stands. The events are
 -- any that can come before a tick, and the setup is any that is taken.
-pub missing_full : (s : Setup) → (powered_on s).refusal ≡ 0 → (gs : List Given) (fan table : ℕ) → fan < 2 → table < 4
+pub missing_full : (s : Setup) → (powered_on s).refusal ≡ None → (gs : List Given) (fan table : ℕ) → fan < 2 → table < 4
     → T (is_set (get_or s.bindings fan 0) (2 ^ table))
-    → (get_or s.overrides fan no_override).duty ≡ Off
+    → (get_or s.overrides fan no_override) ≡ None
     → followed (chip_after (power_on s) gs) table ≡ Missing
     → FullDuty (chip_after (power_on s) gs) fan
 missing_full s v gs fan table f t bound off m =

@@ -1,12 +1,12 @@
 -- The sensors that have limits, voltages, fans and zones: when one is missing, watched or masked, what gives it a reading, and how a broken
 -- one looks at a tick. Assumes nothing.
-use Rattle.std.specs.Prelude.{◌≡◌, Bool, true, List, [], ℕ, suc, ◌+◌, ◌-◌, ◌/◌, ◌%◌, ◌^◌, ◌≤◌, ◌<◌, T, get_or}
+use Rattle.std.specs.Prelude.{◌≡◌, Bool, true, List, [], ℕ, suc, ◌+◌, ◌-◌, ◌/◌, ◌%◌, ◌^◌, ◌≤◌, ◌<◌, T, get_or, Some, None}
+use Rattle.map.specs.Blocks.{fixed}
 use Rattle.map.specs.Bits.{is_set}
 use Rattle.map.specs.Names.{B_ERROR_STATUS_1, B_ERROR_STATUS_2, B_FAN_ERROR_STATUS, H_ERROR_STATUS_1, H_ERROR_STATUS_2, H_FAN_ERROR_STATUS, CONFIGURATION, GMSK, FIXED_BLOCK_0, FIXED_BLOCK_1}
 use Rattle.masks.specs.Masks.{volt_masked, fan_masked, zone_masked}
 use Rattle.temperature.specs.declared.Reading.TheVariants as reading
 use Rattle.state.specs.declared.Chip.{Chip}
-use Rattle.state.specs.declared.Count.TheVariants.{Taken, Missing}
 use Rattle.state.specs.Parts.{register_at, zone_at, volt_at, fan_at}
 use Rattle.sense.specs.Errors.{low_limit, high_limit, fan_limit_at}
 use Rattle.sense.specs.ZoneLimits.{zone_number, zone_watched}
@@ -28,8 +28,8 @@ pub data Sensor : Type 0 where
 
 -- it has no taken reading
 unfoldable pub IsMissing : Sensor → Chip → Type 0
-IsMissing (volt i l) c = volt_at c i ≡ Missing
-IsMissing (fan i l) c = fan_at c i ≡ Missing
+IsMissing (volt i l) c = volt_at c i ≡ None
+IsMissing (fan i l) c = fan_at c i ≡ None
 IsMissing (zone i l) c = zone_at c i ≡ reading.Missing
 
 -- "Not watched: a voltage with limits 00h and FFh, a fan with limit 3FFFh"; 02, Q-12: a zone with limits 80h and 7Fh, "nor .. 1b or 2b while not
@@ -48,8 +48,8 @@ is_masked (zone i l) file = zone_masked file (zone_number i)
 -- an event gives it a taken reading: "V, channel 1 to 16", "F, fan 1 to 4"; a zone a T or U that is heard, a V that feeds it, or a whole byte
 -- that is written, by itself or in a block
 pub data GivesTaken (c : Chip) (g : Given) : Sensor → Type 0 where
-  count : {i : ℕ} {l : i < 16} (n : ℕ) → g.event ≡ Voltage (suc i) (Taken n) → GivesTaken c g (volt i l)
-  speed : {i : ℕ} {l : i < 4} (n : ℕ) → g.event ≡ Fan (suc i) (Taken n) → GivesTaken c g (fan i l)
+  count : {i : ℕ} {l : i < 16} (n : ℕ) → g.event ≡ Voltage (suc i) (Some n) → GivesTaken c g (volt i l)
+  speed : {i : ℕ} {l : i < 4} (n : ℕ) → g.event ≡ Fan (suc i) (Some n) → GivesTaken c g (fan i l)
   temperature : {i : ℕ} {l : i < 6} → GivesZone c i g.event g.bytes → GivesTaken c g (zone i l)
 
 -- where its error bit stands in the BMC group: "41h and 42h, channel 1 at bit 0 of 41h"; the fans' register is 47h, the zones' 40h
@@ -82,7 +82,7 @@ pub record InBlock (c : Chip) (first count a bit : ℕ) : Type 0 where
 -- each G of the command that is given to the chip and acknowledged shows the bit of register a
 abbrev pub BlocksShow : Chip → ℕ → ℕ → ℕ → Type 0
 BlocksShow c command a bit =
-    (address first count : ℕ) → (stepped_chip c (ReadBlock address command) []).answer ≡ Block first count → InBlock (stepped_chip c (ReadBlock address command) []).chip first count a bit
+    (address first count : ℕ) → (stepped_chip c (ReadBlock address command) []).answer ≡ Block (fixed first count) → InBlock (stepped_chip c (ReadBlock address command) []).chip first count a bit
 
 -- a K given to the chip: what it answers tells of an error, with ALERT unless GMSK is set, and after it both groups show the sensor's bit, to
 -- byte reads as in the dump, and so do block reads of F2h, the BMC group, and of F3h, the Host group. All of them have no bytes beside them;

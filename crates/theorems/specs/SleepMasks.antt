@@ -23,7 +23,7 @@ use Rattle.event.specs.Run.{Given, given_step}
 use Rattle.event.specs.Refusal.{step_cases}
 use Rattle.theorems.specs.Sensors.{Sensor, volt, fan, zone, is_masked, bmc_register, host_register, error_place}
 use Rattle.theorems.specs.MaskedSensors.{HasBit, bmc, host, missed_none}
-use Rattle.theorems.specs.MaskedEvents.{None, temperature_none, voltage_none, fan_none, reset_none, write_none, block_none}
+use Rattle.theorems.specs.MaskedEvents.{NoneAdded, temperature_none, voltage_none, fan_none, reset_none, write_none, block_none}
 
 -- ---- no bit from any event
 
@@ -33,7 +33,7 @@ pub record GetsNone (x : Sensor) (c d : Chip) : Type 0 where
   pub in_host : NoNew (host_register x) (error_place x) c.registers d.registers
 
 module _ (x : Sensor) {a : ℕ} (b : HasBit x a) (c : Chip) (m : is_masked x c.registers ≡ true) where
-  taken_none : (e : Event) (bytes : List ℕ) → None x b c m (taken_step c e bytes).chip
+  taken_none : (e : Event) (bytes : List ℕ) → NoneAdded x b c m (taken_step c e bytes).chip
   unfolding taken_step quiet_step tick_answer written_answer read_answer seen_block_answer written_block_answer
   taken_none (Temperature i s) bytes = temperature_none x b c m (i - 1) _
   taken_none (Voltage channel n) bytes = voltage_none x b c m (channel - 1) n
@@ -47,8 +47,8 @@ module _ (x : Sensor) {a : ℕ} (b : HasBit x a) (c : Chip) (m : is_masked x c.r
   taken_none (ReadBlock address command) bytes = none_same (rw (read_block_keeps c address command).rest.registers)
   taken_none (WriteBlock address command) bytes = block_none x b c m address command bytes
 
-  step_none : (g : Given) → None x b c m (given_step c g).chip
-  step_none g = step_cases c g.event g.bytes (None x b c m) (none_same refl) (λ t. taken_none g.event g.bytes)
+  step_none : (g : Given) → NoneAdded x b c m (given_step c g).chip
+  step_none g = step_cases c g.event g.bytes (NoneAdded x b c m) (none_same refl) (λ t. taken_none g.event g.bytes)
 
 -- "A masked bit is neither set ..": a voltage, a fan or a zone that is masked gets no bit from any event, taken or refused, in neither group
 pub masked_gets_none : (x : Sensor) (c : Chip) → is_masked x c.registers ≡ true → (g : Given) → GetsNone x c (given_step c g).chip

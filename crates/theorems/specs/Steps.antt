@@ -5,11 +5,12 @@ use Rattle.event.specs.declared.Answer.TheVariants.{Refused}
 use Rattle.event.specs.declared.Stepped.{Stepped}
 use Rattle.event.specs.Run.{Given, given_step}
 use Rattle.theorems.specs.Alike.{NoHigher}
+use Rattle.state.specs.declared.Refusal.{Refusal}
 use Rattle.theorems.specs.Beside.{Under}
 
 -- the event is not refused
 abbrev pub NotRefused : Chip → Given → Type 0
-NotRefused c g = (n : ℕ) → (given_step c g).answer ≡ Refused n → ⊥
+NotRefused c g = (r : Refusal) → (given_step c g).answer ≡ Refused r → ⊥
 
 -- of two steps, the first leaves a chip no hotter and answers no higher duties
 pub record Rises (s t : Stepped) : Type 0 where

@@ -1,6 +1,6 @@
 -- Document 02, Q-2, "Voltage hysteresis as the chip has it", of one event: whether a channel is in error after it, and the bit that it sets.
 -- Channels count from 0 here, and from 1 in V. Assumes nothing.
-use Rattle.std.specs.Prelude.{◌≡◌, Bool, List, T, leb}
+use Rattle.std.specs.Prelude.{◌≡◌, Bool, List, T, leb, Option, Some, None}
 use Rattle.std.proofs.Math.Path.{refl}
 use Rattle.std.proofs.Common.{sym, ap, ◌∙◌, arith}
 use Rattle.std.proofs.Math.Bool.{true, false}
@@ -15,8 +15,6 @@ use Rattle.map.specs.Names.{B_ERROR_STATUS_2, H_ERROR_STATUS_2}
 use Rattle.masks.specs.Masks.{volt_masked}
 use Rattle.masks.specs.Table.{volt_same}
 use Rattle.state.specs.declared.Chip.{Chip}
-use Rattle.state.specs.declared.Count.{Count}
-use Rattle.state.specs.declared.Count.TheVariants.{Taken, Missing}
 use Rattle.state.specs.Parts.{register_at, in_error}
 use Rattle.state.specs.Order.{SameButZones}
 use Rattle.sense.specs.Errors.{low_limit, high_limit, is_outside, compared_volt}
@@ -37,22 +35,23 @@ use Rattle.event.specs.Refusal.{taken_in, step_taken, step_refused}
 use Rattle.event.specs.Lasting.{Sized}
 use Rattle.theorems.specs.Taken.{IsTaken}
 use Rattle.theorems.specs.ShownBytes.{ShowsBit, status_shown, status_read}
+use Rattle.state.specs.declared.Refusal.{Refusal}
 use Rattle.theorems.specs.Gauges.{Gives, volt, fan, neither, gives}
 
 -- ---- what is said
 
 -- an event gives channel i a count, which may be missing, and is not refused
-pub record GivesCount (i : ℕ) (n : Count) (g : Given) : Type 0 where
+pub record GivesCount (i : ℕ) (n : Option ℕ) (g : Given) : Type 0 where
   pub event : g.event ≡ Voltage (suc i) n
   pub taken : IsTaken g
 
 -- "a taken reading outside its limits", and "one that is at least low plus VH and at most high minus VH": the limits and VH are those that
 -- stand at the reading
 pub data Starts (i : ℕ) (c : Chip) (g : Given) : Type 0 where
-  outside : (n : ℕ) → GivesCount i (Taken n) g → is_outside (low_limit c.registers i) (high_limit c.registers i) n ≡ true → Starts i c g
+  outside : (n : ℕ) → GivesCount i (Some n) g → is_outside (low_limit c.registers i) (high_limit c.registers i) n ≡ true → Starts i c g
 
 pub data Ends (i : ℕ) (c : Chip) (g : Given) : Type 0 where
-  within : (n : ℕ) → GivesCount i (Taken n) g → ends_error (low_limit c.registers i) (high_limit c.registers i) (hysteresis_of c.registers) n ≡ true → Ends i c g
+  within : (n : ℕ) → GivesCount i (Some n) g → ends_error (low_limit c.registers i) (high_limit c.registers i) (hysteresis_of c.registers) n ≡ true → Ends i c g
 
 -- a channel is in error after an event: since then, or since before it
 pub data From (i : ℕ) (c : Chip) (g : Given) : Type 0 where
@@ -68,7 +67,7 @@ pub record ShowsError (i : ℕ) (c : Chip) : Type 0 where
 
 -- ---- V for the channel
 
-module _ {i : ℕ} {n : Count} {g : Given} (r : GivesCount i n g) where
+module _ {i : ℕ} {n : Option ℕ} {g : Given} (r : GivesCount i n g) where
   volt_in : event_in (Voltage (suc i) n) ≡ true
   volt_in = rw (← r.event) (taken_in g.event g.bytes r.taken)
 
@@ -96,7 +95,7 @@ module _ {i : ℕ} {n : Count} {g : Given} (r : GivesCount i n g) where
   count_erring c z = rw (step_volt c) (volt_erring c i n there z.erring)
 
 -- a taken count is at most 255
-pub in_range : {i n : ℕ} {g : Given} → GivesCount i (Taken n) g → n ≤ 255
+pub in_range : {i n : ℕ} {g : Given} → GivesCount i (Some n) g → n ≤ 255
 unfolding event_in count_in
 in_range {i} {n} r = leb-true n 255 (both_right (index_in 16 (suc i)) (leb n 255) (volt_in r))
 
@@ -104,10 +103,10 @@ in_range {i} {n} r = leb-true n 255 (both_right (index_in 16 (suc i)) (leb n 255
 
 -- an event gives channel i a count, or leaves whether it is in error
 data Does (i : ℕ) (c : Chip) (g : Given) : Type 0 where
-  counts : (n : Count) → GivesCount i n g → Does i c g
+  counts : (n : Option ℕ) → GivesCount i n g → Does i c g
   leaves : in_error (given_step c g).chip i ≡ in_error c i → Does i c g
 
-from_one : (n : Count) → event_in (Voltage zero n) ≡ true → ⊥
+from_one : (n : Option ℕ) → event_in (Voltage zero n) ≡ true → ⊥
 unfolding event_in index_in
 from_one n e = never (cc)
 
@@ -126,11 +125,11 @@ module _ (i : ℕ) (c : Chip) (bytes : List ℕ) where
 
 does : (i : ℕ) (c : Chip) (g : Given) → Does i c g
 unfolding refused_step
-does i c g = go (eqb (refusal_of g.event g.bytes) 0) refl
+does i c g = go (refusal_of g.event g.bytes) refl
   where
-    go : (t : Bool) → eqb (refusal_of g.event g.bytes) 0 ≡ t → Does i c g
-    go true e = taken_does i c g.bytes (gives g.event) (eqb-true _ 0 e)
-    go false e = leaves (rw (step_refused c g.event g.bytes (eqb-false _ 0 e)))
+    go : (r : Option Refusal) → refusal_of g.event g.bytes ≡ r → Does i c g
+    go None e = taken_does i c g.bytes (gives g.event) e
+    go (Some r) e = leaves (rw (step_refused c g.event g.bytes e))
 
 stands_shown : (i : ℕ) → i < 16 → (c : Chip) → volt_masked c.registers i ≡ false → VoltStands c.registers i → ShowsError i c
 unfolding register_at
@@ -144,14 +143,14 @@ module _ (i : ℕ) (c : Chip) (sized : Sized c) (g : Given) where
 
   -- nothing but a taken reading of its own starts or ends it: not limits or VH written, its bit cleared, X, a tick, a reading of another
   -- channel or what is refused, and "Missing readings neither start nor end it."
-  pub untaken_leaves : ((n : ℕ) → GivesCount i (Taken n) g → ⊥) → in_error (given_step c g).chip i ≡ in_error c i
+  pub untaken_leaves : ((n : ℕ) → GivesCount i (Some n) g → ⊥) → in_error (given_step c g).chip i ≡ in_error c i
   unfolding erring_after
   untaken_leaves o = go (does i c g)
     where
       go : Does i c g → in_error (given_step c g).chip i ≡ in_error c i
       go (leaves e) = e
-      go (counts Missing r) = count_erring r c sized
-      go (counts (Taken n) r) = absurd (o n r)
+      go (counts None r) = count_erring r c sized
+      go (counts (Some n) r) = absurd (o n r)
 
   -- a reading outside its limits starts it, and one that is at least low plus VH and at most high minus VH ends it
   pub started : Starts i c g → in_error (given_step c g).chip i ≡ true
@@ -169,8 +168,8 @@ module _ (i : ℕ) (c : Chip) (sized : Sized c) (g : Given) where
     where
       go : Does i c g → in_error (given_step c g).chip i ≡ true
       go (leaves q) = q ∙ e
-      go (counts Missing r) = count_erring r c sized ∙ e
-      go (counts (Taken n) r) = count_erring r c sized ∙ rw e (unended_holds _ _ _ n (λ q. o (within n r q)))
+      go (counts None r) = count_erring r c sized ∙ e
+      go (counts (Some n) r) = count_erring r c sized ∙ rw e (unended_holds _ _ _ n (λ q. o (within n r q)))
 
   -- and it is in error after an event only if that starts it, or if it was before
   pub comes_from : in_error (given_step c g).chip i ≡ true → From i c g
@@ -179,8 +178,8 @@ module _ (i : ℕ) (c : Chip) (sized : Sized c) (g : Given) where
     where
       go : Does i c g → From i c g
       go (leaves q) = before (sym q ∙ e)
-      go (counts Missing r) = before (sym (count_erring r c sized) ∙ e)
-      go (counts (Taken n) r) = on (is_outside (low_limit c.registers i) (high_limit c.registers i) n) refl
+      go (counts None r) = before (sym (count_erring r c sized) ∙ e)
+      go (counts (Some n) r) = on (is_outside (low_limit c.registers i) (high_limit c.registers i) n) refl
         where
           on : (t : Bool) → is_outside (low_limit c.registers i) (high_limit c.registers i) n ≡ t → From i c g
           on true q = now (outside n r q)
@@ -189,14 +188,14 @@ module _ (i : ℕ) (c : Chip) (sized : Sized c) (g : Given) where
   -- ---- the bits
 
   -- a reading that leaves the channel in error sets its bit in both groups, unless it is masked
-  pub reading_sets : (n : ℕ) → GivesCount i (Taken n) g → volt_masked c.registers i ≡ false → in_error (given_step c g).chip i ≡ true → ShowsError i (given_step c g).chip
+  pub reading_sets : (n : ℕ) → GivesCount i (Some n) g → volt_masked c.registers i ≡ false → in_error (given_step c g).chip i ≡ true → ShowsError i (given_step c g).chip
   reading_sets n r u e =
       let b = count_registers r c in
-      let m = erred_volt_marks c.registers i (there r) (in_error c i) (Taken n) in
+      let m = erred_volt_marks c.registers i (there r) (in_error c i) (Some n) in
       let unmasked = sym (volt_same (but_masks b) i) ∙ volt_same (marks_masks m) i ∙ u in
       stands_shown i (there r) _ unmasked (volt_stands_but b (there r) (erring_stands c.registers i (in_error c i) n (there r) sized.registers u (sym (count_erring r c sized) ∙ e)))
 
   -- and one that does not sets none, but for that of a zone that the voltage feeds
-  pub reading_sets_none : (n : ℕ) → GivesCount i (Taken n) g → in_error (given_step c g).chip i ≡ false → SameButZones c.registers (given_step c g).chip.registers
+  pub reading_sets_none : (n : ℕ) → GivesCount i (Some n) g → in_error (given_step c g).chip i ≡ false → SameButZones c.registers (given_step c g).chip.registers
   reading_sets_none n r e =
       rw (sound_sets_none c.registers i (in_error c i) n (sym (count_erring r c sized) ∙ e)) at (count_registers r c)

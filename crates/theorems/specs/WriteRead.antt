@@ -1,5 +1,5 @@
 -- What a byte write stores is what the next byte read shows, by a case: BFh from power-on. Assumes nothing.
-use Rattle.std.specs.Prelude.{◌≡◌, refl, true, false, [], ◌∷◌, ℕ}
+use Rattle.std.specs.Prelude.{◌≡◌, refl, true, false, [], ◌∷◌, ℕ, Some}
 use Rattle.std.proofs.Common.{◌∙◌}
 use Rattle.map.specs.Names.{PWM_RAMP_CONTROL, CONFIGURATION, LOCK}
 use Rattle.map.specs.Tables.{defaults, writables, lock_marks, homes}
@@ -9,7 +9,6 @@ use Rattle.map.specs.Kind.{kind_of}
 use Rattle.map.specs.Slave.{slave_address}
 use Rattle.map.specs.FanBytes.{byte_of_kind, fan_byte_at}
 use Rattle.state.specs.declared.Chip.{Chip}
-use Rattle.state.specs.declared.Latch.TheVariants.{Held}
 use Rattle.state.specs.Parts.{register_at}
 use Rattle.state.specs.With.{with_register}
 use Rattle.state.specs.PowerOn.{default_setup, power_on}
@@ -28,13 +27,13 @@ use Rattle.theorems.specs.LockMarks.{marked_read}
 abbrev latched : Chip
 latched = transacted (power_on default_setup) 0x2C
 
-held : latched.pin.latch ≡ Held 0x2C
+held : latched.pin.latch ≡ Some 0x2C
 unfolding transacted transacted_pin latch_after latch_by slave_address power_on default_setup
 held = refl
 
 -- a read for our address, and a write
-module _ (c : Chip) (ours : (transacted c 0x2C).pin.latch ≡ Held 0x2C) (a : ℕ) where
-  reads : stepped_chip c (Read 0x2C a) [] ≡ record { chip = kept_chip (transacted c 0x2C) a; answer = Byte (given_register (transacted c 0x2C) a) }
+module _ (c : Chip) (ours : (transacted c 0x2C).pin.latch ≡ Some 0x2C) (a : ℕ) where
+  reads : stepped_chip c (Read 0x2C a) [] ≡ record { chip = kept_chip (transacted c 0x2C) a; answer = Byte (Some (given_register (transacted c 0x2C) a)) }
   unfolding stepped_chip refusal_of event_in taken_step read_answer seen_answer read_byte is_ours
   reads = rw ours
 
@@ -56,7 +55,7 @@ written c unlocked byte = rw unlocked
 abbrev changed_BFh : Chip
 changed_BFh = wrote_register latched PWM_RAMP_CONTROL 0x01
 
-still_held : changed_BFh.pin.latch ≡ Held 0x2C
+still_held : changed_BFh.pin.latch ≡ Some 0x2C
 still_held = rw (register_keeps_pin latched PWM_RAMP_CONTROL 0x01) held
 
 -- what a read of BFh shows before, and after
@@ -69,7 +68,7 @@ unfolding lock_marked lock_marks register_at with_register stored_byte is_set tr
 read_after = marked_read changed_BFh PWM_RAMP_CONTROL tt ∙ rw (written latched refl 0x01)
 
 -- BFh has 00h at power-on, and 01h after W 2C BF 01
-pub write_is_read : answers_to (power_on default_setup) (alone (Read 0x2C 0xBF) ∷ alone (Write 0x2C 0xBF 0x01) ∷ alone (Read 0x2C 0xBF) ∷ []) ≡ Byte 0x00 ∷ Acknowledged true ∷ Byte 0x01 ∷ []
+pub write_is_read : answers_to (power_on default_setup) (alone (Read 0x2C 0xBF) ∷ alone (Write 0x2C 0xBF 0x01) ∷ alone (Read 0x2C 0xBF) ∷ []) ≡ Byte (Some 0x00) ∷ Acknowledged true ∷ Byte (Some 0x01) ∷ []
 unfolding answers_to
 write_is_read =
     rw (reads (power_on default_setup) held 0xBF, unkept latched, writes latched (held_stays latched 0x2C held) 0xBF 0x01, held_same latched 0x2C held)

@@ -7,7 +7,6 @@ use Rattle.temperature.specs.declared.Reading.{Reading}
 use Rattle.temperature.specs.declared.Reading.TheVariants.{Missing}
 use Rattle.state.specs.declared.Chip.{Chip}
 use Rattle.state.specs.declared.Setup.{Setup}
-use Rattle.state.specs.declared.Zone.{Zone}
 use Rattle.state.specs.Parts.{no_zone, zone_at}
 use Rattle.state.specs.PowerOn.{power_on}
 use Rattle.theorems.specs.ZoneWrites.{Has}
@@ -15,7 +14,7 @@ use Rattle.theorems.specs.ZoneWrites.{Has}
 -- at power-on every zone is missing
 pub power_has : (P : Reading → Type 0) → P Missing → (s : Setup) (z : ℕ) → Has P z (power_on s)
 unfolding power_on zone_at
-power_has P m s z = replicate_each (λ (w : Zone). P w.reading) 6 no_zone m m z
+power_has P m s z = replicate_each (P) 6 no_zone m m z
 
 -- ---- missing
 

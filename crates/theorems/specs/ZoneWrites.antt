@@ -5,17 +5,15 @@ use Rattle.std.proofs.Math.Path.{refl}
 use Rattle.std.proofs.Common.{ap, ◌∙◌, arith}
 use Rattle.laws.specs.Pick.{pick}
 use Rattle.laws.specs.Store.{set_cases}
-use Rattle.map.specs.declared.Block.TheVariants.{Fixed}
 use Rattle.map.specs.declared.Kind.{Kind}
 use Rattle.map.specs.declared.Kind.TheVariants.{Plain, Status, Whole, Half, Volt, FanLow, FanHigh, VoltLow, VoltHigh, FanLimitLow, FanLimitHigh}
 use Rattle.map.specs.Names.{TEMPERATURE_SOURCE_SELECT, CONFIGURATION}
 use Rattle.map.specs.Map.{home_of}
 use Rattle.map.specs.Kind.{kind_of}
-use Rattle.map.specs.Blocks.{block_of}
+use Rattle.map.specs.Blocks.{fixed, block_of}
 use Rattle.temperature.specs.declared.Reading.{Reading}
 use Rattle.temperature.specs.Temperature.{reading_of, with_half}
 use Rattle.state.specs.declared.Chip.{Chip}
-use Rattle.state.specs.declared.Zone.{Zone}
 use Rattle.state.specs.Parts.{no_zone, register_at, zone_at}
 use Rattle.state.specs.With.{with_register, with_zone}
 use Rattle.sense.specs.Events.{read_zone}
@@ -49,7 +47,7 @@ module _ {P : Reading → Type 0} (h : HalfKeeps P) (z : ℕ) (c : Chip) (m : Ha
   -- a zone gets a reading: another zone, or one that has P
   pub set_has : (i : ℕ) (r : Reading) → (i ≡ z → P r) → Has P z (read_zone c i r)
   unfolding read_zone with_zone zone_at
-  set_has i r own = set_cases (λ (w : Zone). P w.reading) c.zones i z (record { reading = r }) no_zone m own
+  set_has i r own = set_cases (P) c.zones i z r no_zone m own
 
   -- W, by the register's kind: a whole byte gives its zone a reading
   kind_has : (home byte : ℕ) (k : Kind) → (k ≡ Whole z → T (zone_writable (source_of c) z) → P (reading_of byte)) → Has P z (changed c (change_kind c home byte k))
@@ -99,7 +97,7 @@ module _ {P : Reading → Type 0} (h : HalfKeeps P) (z : ℕ) (c : Chip) where
         (λ t. register_has h z (transacted c address) m a byte (own t)) m
 
     -- P
-    pub block_has : (address command : ℕ) (bytes : List ℕ) → ((first k : ℕ) → T (is_ours (transacted c address).pin.latch address) → block_of command ≡ Fixed first (length bytes) → k < length bytes → Reaches (source_of c) (lock_of c) z (first + k) → P (reading_of (get_or bytes k 0))) → Has P z (wrote_block c address command bytes).chip
+    pub block_has : (address command : ℕ) (bytes : List ℕ) → ((first k : ℕ) → T (is_ours (transacted c address).pin.latch address) → block_of command ≡ fixed first (length bytes) → k < length bytes → Reaches (source_of c) (lock_of c) z (first + k) → P (reading_of (get_or bytes k 0))) → Has P z (wrote_block c address command bytes).chip
     unfolding transacted zone_at register_at
     block_has address command bytes own =
         (block_keeps c address command bytes (Still P z c) (λ a byte. Apart a × (Reaches (source_of c) (lock_of c) z a → P (reading_of byte)))

@@ -1,20 +1,18 @@
 -- The zones as document 01 speaks of them: which a table follows, when it is missing, and what gives one a reading. In `zone_at` zones count
 -- from 0 in the order 1a, 1b, 2a, 2b, 3, 4; tables count from 0. Assumes nothing.
-use Rattle.std.specs.Prelude.{◌≡◌, not, List, ℕ, suc, ◌+◌, ◌<◌, T, eqb, ℤ, length, get_or}
+use Rattle.std.specs.Prelude.{◌≡◌, not, List, ℕ, suc, ◌+◌, ◌<◌, T, eqb, ℤ, length, get_or, Option}
 use Rattle.laws.specs.Pick.{pick}
-use Rattle.map.specs.declared.Block.TheVariants.{Fixed}
 use Rattle.map.specs.declared.Kind.TheVariants.{Whole}
 use Rattle.map.specs.Names.{TEMPERATURE_SOURCE_SELECT, FAN_CONTROL_BINDINGS, CONFIGURATION, Z1BE, Z2BE, LUT1_Z1, LUT2_Z2, LUT3_Z1, LUT4_Z2}
 use Rattle.map.specs.Map.{home_of}
 use Rattle.map.specs.Bits.{is_set}
 use Rattle.map.specs.Kind.{kind_of}
-use Rattle.map.specs.Blocks.{block_of}
+use Rattle.map.specs.Blocks.{fixed, block_of}
 use Rattle.temperature.specs.declared.Reading.{Reading}
 use Rattle.temperature.specs.declared.Reading.TheVariants.{Taken, Missing}
 use Rattle.temperature.specs.declared.Stated.{Stated}
 use Rattle.temperature.specs.Temperature.{stated_reading, reading_of}
 use Rattle.state.specs.declared.Chip.{Chip}
-use Rattle.state.specs.declared.Count.{Count}
 use Rattle.state.specs.Parts.{register_at, zone_at}
 use Rattle.sense.specs.Events.{zone_heard, volt_reading, feeds_three, feeds_four}
 use Rattle.bus.specs.Latch.{is_ours, transacted}
@@ -68,10 +66,10 @@ pub record Reaches (source lock z a : ℕ) : Type 0 where
 -- or E3h in it, so every byte finds there what the block found
 pub data Gives (c : Chip) (z : ℕ) : Event → List ℕ → Reading → Type 0 where
   heard : {s : Stated} {bytes : List ℕ} → T (zone_heard (source_of c) z) → Gives c z (Temperature (suc z) s) bytes (stated_reading s)
-  fed : {channel : ℕ} {n : Count} {bytes : List ℕ} → Feeds (source_of c) channel z → Gives c z (Voltage (suc channel) n) bytes (volt_reading n)
+  fed : {channel : ℕ} {n : Option ℕ} {bytes : List ℕ} → Feeds (source_of c) channel z → Gives c z (Voltage (suc channel) n) bytes (volt_reading n)
   written : {address a byte : ℕ} {bytes : List ℕ} → T (is_ours (transacted c address).pin.latch address) → Reaches (source_of c) (lock_of c) z a
       → Gives c z (Write address a byte) bytes (reading_of byte)
-  in_block : {address command first k : ℕ} {bytes : List ℕ} → T (is_ours (transacted c address).pin.latch address) → block_of command ≡ Fixed first (length bytes)
+  in_block : {address command first k : ℕ} {bytes : List ℕ} → T (is_ours (transacted c address).pin.latch address) → block_of command ≡ fixed first (length bytes)
       → k < length bytes → Reaches (source_of c) (lock_of c) z (first + k) → Gives c z (WriteBlock address command) bytes (reading_of (get_or bytes k 0))
 
 -- one that is taken: of a T or U that is not `-`, a V above 0, a byte other than 80h

@@ -1,39 +1,25 @@
--- `bus::dump` meets its contract: the buffer is filled from the front with the present bytes. Assumes nothing.
-use mathlib.Core.Path.{◌≡◌, refl, ap, ◌∙◌}
+-- `bus::dump` meets its contract: a dump is a block of 256 bytes from 00h on. Assumes nothing.
+use mathlib.Core.Path.{◌≡◌, ap, ◌∙◌}
 use native.Mathlib.Omega.{arith}
-use lib.ListN.{length-set}
-use borrow.Author.Tests.{lt-ltb, le-ltb}
-use Rattle.laws.specs.Tab.{tab_none, tab_more}
+use Prim.Native.Nat.{ℕ, ◌≤◌}
+use mathlib.Core.List.{List}
+use lib.ListN.{length, take}
+use Rattle.std.proofs.Common.{length-take}
+use borrow.Author.Tests.{le-ltb}
+use Rattle.laws.specs.TabEach.{tab_same}
+use Rattle.state.specs.declared.Chip.{Chip}
 use Rattle.bus.specs.Read.{shown_register}
 use Rattle.bus.specs.Dump.{shown_all, dump_answer, dumped_into}
+use Rattle.bus.specs.Block.{block_bytes, block_place}
 use Rattle.bus.proofs.dump.Goals as goal
 
-pub returns-then-out-lt256 : goal.returns-then-out-lt256
-unfolding dump_answer dumped_into
-returns-then-out-lt256 c = (rw (lt-ltb _ _ c.if-out-lt256.true), rw (lt-ltb _ _ c.if-out-lt256.true))
-
-pub loop-i-init : goal.loop-i-init
-loop-i-init c = (omega arith, c.if-out-lt256.false, refl, tab_none _ _)
-
-pub bounds-out-i : goal.bounds-out-i
-bounds-out-i c = omega arith
-
-pub overflow_add-i : goal.overflow_add-i
-overflow_add-i c = omega arith
-
-pub loop-i-smaller : goal.loop-i-smaller
-loop-i-smaller c = omega arith
-
-pub loop-i-preserved : goal.loop-i-preserved
-loop-i-preserved c = (
-  omega arith,
-  c.loop-i.invariant.1,
-  simp length-set c.loop-i.invariant.2,
-  tab_more (shown_register _) c.loop-i.i _ _ (omega arith) (c.show_register.ensures ∙ ap (shown_register _) (omega arith)) c.loop-i.invariant.3,
-)
+whole : (c : Chip) (out : List ℕ) → 256 ≤ length out → block_bytes c 0 (length (take 256 out)) ≡ shown_all c
+unfolding block_bytes block_place shown_all
+whole c out h =
+    let long : length (take 256 out) ≡ 256 = simp length-take (omega arith) in
+    rw long (tab_same _ _ 256 (λ k l. ap (shown_register c) (omega arith)))
 
 pub returns : goal.returns
-unfolding dump_answer dumped_into shown_all
+unfolding dump_answer dumped_into
 returns c =
-    let all : c.loop-i.i ≡ 256 = omega arith in
-    (rw (le-ltb _ _ c.loop-i.invariant.1), rw (le-ltb _ _ c.loop-i.invariant.1) (rw all at c.loop-i.invariant.3))
+    (rw (le-ltb _ _ c.if-out-lt256.false), rw (le-ltb _ _ c.if-out-lt256.false, c.show_block.ensures ∙ whole _ _ c.if-out-lt256.false))

@@ -1,22 +1,34 @@
-use mathlib.Core.Path.{sym, ◌∙◌}
-use native.Mathlib.Omega.{arith}
-use Rattle.laws.specs.Tried.{tried_none, tried_more, tried_stop, tried_all}
+use Rattle.std.specs.Prelude.{◌≡◌, ℕ, ◌+◌, ◌≤◌, ◌<◌, ◌↔◌, Bool, true, List, Some, slice_get, get_or, take, drop, length}
+use Rattle.std.proofs.Common.{rules, arith, le-leb, leb-true}
+use Rattle.std.proofs.lemmas.List.{get_or-take, get_or-drop}
+use Rattle.std.proofs.lemmas.Option.{slice_get-get_or}
+use Rattle.laws.specs.Every.{every}
+use Rattle.text.specs.declared.Number.{Number}
+use Rattle.text.specs.declared.Number.TheVariants.{Dash}
+use Rattle.settings.specs.Places.{DUTIES, NUMBERS}
+use Rattle.settings.specs.Settings.{rises_by, plain_of}
+use Rattle.laws.specs.Passing.{every_is}
 use Rattle.settings.proofs.all_rise.Goals as goal
 
-pub loop-k-init : goal.loop-k-init
-loop-k-init c = tried_none
+module _ (es : List Number) (long : length es ≡ NUMBERS) where
+  abbrev duties : List Number
+  duties = take 13 (drop DUTIES es)
 
-pub overflow_add-k : goal.overflow_add-k
-overflow_add-k c = omega arith
+  abbrev held : ℕ → ℕ
+  held k = plain_of (Some (get_or duties k Dash))
 
-pub loop-k-smaller : goal.loop-k-smaller
-loop-k-smaller c = omega arith
+  -- duty k
+  duty : (k m : ℕ) → k < 13 → DUTIES + k ≡ m → held k ≡ plain_of (slice_get es m)
+  duty k m l e =
+      rw (slice_get-get_or es m Dash (omega (arith, long)), ← e, get_or-take 13 (drop DUTIES es) k Dash l, get_or-drop DUTIES es k Dash)
 
-pub loop-k-preserved : goal.loop-k-preserved
-loop-k-preserved c = tried_more c.loop-k.invariant (omega arith) (sym c.rises_in.ensures ∙ c.if-rises_in.true)
-
-pub returns-else-rises_in : goal.returns-else-rises_in
-returns-else-rises_in c = tried_stop c.loop-k.invariant (omega arith) (sym c.rises_in.ensures ∙ c.if-rises_in.false)
+  rises : (r : Bool) → length duties ≡ 13 → (r ≡ true ↔ ((k : ℕ) → k + 1 < length duties → held k ≤ held (k + 1))) → r ≡ every 12 (rises_by (slice_get es))
+  unfolding rises_by
+  rises r n h =
+      every_is r 12 (rises_by (slice_get es)) (
+        λ e k l. rw (← duty k (DUTIES + k) (omega arith) (omega arith), ← duty (k + 1) (DUTIES + k + 1) (omega arith) (omega arith)) (le-leb _ _ (h.0 e k (omega arith))),
+        λ a. h.1 (λ k l. rw (duty k (DUTIES + k) (omega arith) (omega arith), duty (k + 1) (DUTIES + k + 1) (omega arith) (omega arith)) (leb-true _ _ (a k (omega arith)))),
+      )
 
 pub returns : goal.returns
-returns c = tried_all c.loop-k.invariant (omega arith)
+returns c = rises c.args.entries.now c.told-entries _ (search rules) (search rules)

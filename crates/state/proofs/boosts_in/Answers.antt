@@ -1,33 +1,10 @@
-use mathlib.Core.Path.{◌≡◌, sym, ◌∙◌}
-use Prim.Native.Nat.{◌-◌}
-use native.Mathlib.Omega.{arith}
-use lib.ListN.{length}
-use borrow.Author.Rules.{rules}
+use Rattle.std.proofs.Common.{rules, tests, length, get_or}
+use Rattle.laws.specs.Passing.{every_is}
 use Rattle.laws.specs.AllPass.{all_pass}
-use Rattle.state.specs.Valid.{boosts_in}
-use Rattle.state.proofs.Lengths.{unmapped}
-use Rattle.laws.specs.Tried.{tried_none, tried_more, tried_stop, tried_all}
+use Rattle.state.specs.Parts.{no_boost}
+use Rattle.state.specs.Valid.{boost_in, boosts_in}
 use Rattle.state.proofs.boosts_in.Goals as goal
-
-pub loop-k-init : goal.loop-k-init
-loop-k-init c = tried_none
-
-pub loop-k-smaller : goal.loop-k-smaller
-loop-k-smaller c = omega arith
-
-pub loop-k-preserved : goal.loop-k-preserved
-loop-k-preserved c =
-    let n : length c.args.boosts ≡ 6 = search (rules, unmapped) in
-    tried_more c.loop-k.invariant (omega arith) (sym c.boost_in.ensures ∙ c.if-boost_in.true)
-
-pub returns-else-boost_in : goal.returns-else-boost_in
-unfolding boosts_in all_pass
-returns-else-boost_in c =
-    let n : length c.args.boosts ≡ 6 = search (rules, unmapped) in
-    tried_stop c.loop-k.invariant (omega arith) (sym c.boost_in.ensures ∙ c.if-boost_in.false)
 
 pub returns : goal.returns
 unfolding boosts_in all_pass
-returns c =
-    let n : length c.args.boosts ≡ 6 = search (rules, unmapped) in
-    tried_all c.loop-k.invariant (omega arith)
+returns c = every_is _ (length c.args.boosts.now) (λ k. boost_in (get_or c.args.boosts.now k no_boost)) (search (rules, tests))

@@ -1,24 +1,10 @@
-use Prim.Native.Nat.{◌-◌}
-use native.Mathlib.Omega.{arith}
-use borrow.Author.Tests.{le-leb, lt-leb}
+use Rattle.std.proofs.Common.{rules, tests, leb, length, get_or}
+use Rattle.laws.specs.Passing.{every_is}
 use Rattle.laws.specs.AllPass.{all_pass}
+use Rattle.state.specs.Most.{DUTY_MOST}
 use Rattle.state.specs.Valid.{numbers_in}
-use Rattle.laws.specs.Tried.{tried_none, tried_more, tried_stop, tried_all}
 use Rattle.state.proofs.duties_in.Goals as goal
-
-pub loop-k-init : goal.loop-k-init
-loop-k-init c = tried_none
-
-pub loop-k-smaller : goal.loop-k-smaller
-loop-k-smaller c = omega arith
-
-pub loop-k-preserved : goal.loop-k-preserved
-loop-k-preserved c = tried_more c.loop-k.invariant (omega arith) (le-leb _ _ c.if-duties-k-le-DUTY.true)
-
-pub returns-else-duties-k-le-DUTY : goal.returns-else-duties-k-le-DUTY
-unfolding numbers_in all_pass
-returns-else-duties-k-le-DUTY c = tried_stop c.loop-k.invariant (omega arith) (lt-leb _ _ c.if-duties-k-le-DUTY.false)
 
 pub returns : goal.returns
 unfolding numbers_in all_pass
-returns c = tried_all c.loop-k.invariant (omega arith)
+returns c = every_is _ (length c.args.duties.now) (λ k. leb (get_or c.args.duties.now k 0) DUTY_MOST) (search (rules, tests))

@@ -1,24 +1,13 @@
-use Prim.Native.Nat.{◌-◌}
-use native.Mathlib.Numerals.{add-one}
-use native.Mathlib.Omega.{arith}
-use borrow.Author.Tests.{le-leb, lt-leb}
+use Rattle.std.proofs.Common.{◌≡◌, ℕ, suc, ◌+◌, ◌≤◌, ◌<◌, ◌↔◌, Bool, true, List, length, get_or, leb, rules, arith, add-one, le-leb, leb-true}
+use Rattle.laws.specs.Every.{every}
+use Rattle.laws.specs.Passing.{every_is}
 use Rattle.state.specs.Valid.{never_fall}
-use Rattle.laws.specs.Tried.{tried_none, tried_more, tried_stop, tried_all}
 use Rattle.state.proofs.never_fall.Goals as goal
 
-pub loop-k-init : goal.loop-k-init
-loop-k-init c = tried_none
-
-pub loop-k-smaller : goal.loop-k-smaller
-loop-k-smaller c = omega arith
-
-pub loop-k-preserved : goal.loop-k-preserved
-loop-k-preserved c = tried_more c.loop-k.invariant (omega arith) (rw (← add-one) (le-leb _ _ c.if-duties-k.true))
-
-pub returns-else-duties-k : goal.returns-else-duties-k
+rises : (r : Bool) (duties : List ℕ) → length duties ≡ 13 → (r ≡ true ↔ ((k : ℕ) → k + 1 < length duties → get_or duties k 0 ≤ get_or duties (k + 1) 0)) → r ≡ never_fall duties
 unfolding never_fall
-returns-else-duties-k c = tried_stop c.loop-k.invariant (omega arith) (rw (← add-one) (lt-leb _ _ c.if-duties-k.false))
+rises r duties n h =
+    every_is r 12 (λ k. leb (get_or duties k 0) (get_or duties (suc k) 0)) (λ e k l. rw (← add-one) (le-leb _ _ (h.0 e k (omega arith))), λ a. h.1 (λ k l. rw add-one (leb-true _ _ (a k (omega arith)))))
 
 pub returns : goal.returns
-unfolding never_fall
-returns c = tried_all c.loop-k.invariant (omega arith)
+returns c = rises _ c.args.duties.now (search rules) (search rules)

@@ -1,5 +1,4 @@
--- The room left is the measure.
 use Rattle.text.proofs.+put_digits.Given as goal
 
 abbrev pub decreases-put_digits : goal.decreases-put_digits
-decreases-put_digits l = l.k
+decreases-put_digits l = l.n

@@ -1,28 +1,21 @@
--- `text::count_fields` meets its contract: the fields counted and those behind the next tab are the line's. Assumes nothing.
-use mathlib.Core.Path.{ap}
-use native.Mathlib.Omega.{arith}
-use lib.ListN.{length}
-use borrow.Author.Rules.{rules}
-use Rattle.text.specs.Fields.{fields_of}
-use Rattle.text.specs.Walk.{others_left_tab, others_left_byte, others_left_none}
+use Rattle.std.proofs.Common.{◌≡◌, refl, ℕ, List, ◌∷◌, ◌+◌, length, count_by, cond, nat_eq, eq-eqb, ne_eqb, arith, rules}
+use Rattle.std.proofs.Math.Logic.{by_cases}
+use Rattle.std.proofs.Math.Decide.{ℕ_discrete}
+use Rattle.std.proofs.lemmas.List.Recursion.{is_count_by}
+use Rattle.text.specs.Fields.{other_fields, fields_of}
 use Rattle.text.proofs.count_fields.Goals as goal
-use Rattle.text.proofs.count_fields.Goals.{then-s-i-eq-TAB, else-s-i-eq-TAB}
 
-pub loop-i-init : goal.loop-i-init
-unfolding fields_of
-loop-i-init c = search rules
+-- one more for each tab
+more : (b : ℕ) (s : List ℕ) → length (other_fields (b ∷ s)) ≡ cond (nat_eq b 9) (1 + length (other_fields s)) (length (other_fields s))
+unfolding other_fields fields_of
+more b s = by_cases (ℕ_discrete b 9) (λ e. rw (other_fields, eq-eqb b 9 e) (omega arith)) (λ e. rw (other_fields, ne_eqb b 9 e))
 
-pub loop-i-preserved : goal.loop-i-preserved
-unfolding fields_of
-loop-i-preserved c =
-    let s = c.args.s.now in
-    let i = c.loop-i.i in
-    let more = c.loop-i-test.true in
-    elim c.if-s-i-eq-TAB.branch [
-      | then-s-i-eq-TAB w ↦ omega (arith, ap length (others_left_tab s i more w.if-s-i-eq-TAB.true))
-      | else-s-i-eq-TAB w ↦ omega (arith, ap length (others_left_byte s i more w.if-s-i-eq-TAB.false))
-    ]
+tabs : (s : List ℕ) → length (other_fields s) ≡ count_by (λ b. nat_eq b 9) s
+unfolding other_fields
+tabs = is_count_by (λ s. length (other_fields s)) (λ b. nat_eq b 9) refl more
 
 pub returns : goal.returns
+unfolding fields_of
 returns c =
-    omega (arith, ap length (others_left_none c.args.s.now c.loop-i.i c.loop-i-test.false))
+    let e : c.count.result ≡ count_by (λ b. nat_eq b 9) c.args.s.now = search rules in
+    omega (arith, tabs c.args.s.now)

@@ -1,13 +1,12 @@
+use Rattle.std.proofs.Common.{rules}
 use Rattle.text.specs.Answers.{ROOM, refusal_text}
-use Rattle.text.specs.Written.{behind, no_room, with_room, refusal_length}
+use Rattle.text.specs.Written.{with_room, refusal_length}
+use Rattle.text.proofs.Outputs.{then}
 use Rattle.text.proofs.write_refusal.Goals as goal
-
-pub returns-then-out-lt-ROOM : goal.returns-then-out-lt-ROOM
-returns-then-out-lt-ROOM c = no_room ROOM _ _ c.if-out-lt-ROOM.true
 
 pub returns : goal.returns
 unfolding refusal_text
 returns c =
-    let a = c.args in
-    with_room ROOM c.if-out-lt-ROOM.false (refusal_length a.number a.refusal)
-    (behind c.put-a.ensures (behind c.put_long-b.ensures.wrote (behind c.put_column-c.ensures.wrote c.put.ensures)))
+    let w = then c.byte.ensures (then c.column.ensures.writes (then c.column-2.ensures.writes c.end.ensures.writes)) in
+    let h = with_room ROOM c.if-out-lt-ROOM.false (refusal_length c.args.number c.args.refusal) w.wrote in
+    search (rules, h)
