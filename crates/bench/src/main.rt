@@ -82,7 +82,7 @@ impl Bench {
         self.number = self.number.saturating_add(1);
     }
 
-    // Takes what one read brought. A line that came at once is given to the chip where it stands.
+    // Takes what one read brought. A line that came at once is given to the chip where it stands; of one in parts what fits is kept.
     fn take_block(
         &mut self,
         rt: &impl Print,

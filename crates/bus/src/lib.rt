@@ -347,7 +347,7 @@ fn write_register(file: &mut [u8; 256], zones: &mut [Reading; 6], register: u8, 
 }
 
 // Writes the bytes to the registers from the first on, one after the other, and answers the zones as they are then.
-// Stays: `file` and `zones` apart, for `change_of` reads both, and this changes the one in place and answers the other.
+// Stays: `file` and `zones` apart, here and in `change_of`, as a chip holds them: a struct of both would be made and taken apart at each call.
 #[tactic(auto, using(crate::specs::Blocks::wrote_more, crate::specs::Blocks::wrote_done))]
 pub fn write_block(
     file: &mut [u8; 256],

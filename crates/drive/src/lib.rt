@@ -112,6 +112,7 @@ impl Table<'_> {
 
     // The look upward from the old step. The offsets that lead there are added and not compared; from there on each threshold is one offset
     // more, and the first that is above the reading ends it.
+    // Stays: by index, here and downward, for the step reached is what a look answers.
     fn look_up(&self, old: u8, reading: i64) -> Look
         ensures { LooksUp self.now.offsets.now (look_up (threshold_reached (lent self.now) reading) (min 12 old)) result }
     {
@@ -513,6 +514,7 @@ impl Before<'_> {
 }
 
 // One tick of 50 ms.
+// Stays: five parts, as a chip holds them, so that whoever has the parts can ask.
 pub fn tick(
     setup: &Setup,
     file: &[u8; 256],

@@ -16,7 +16,7 @@ ghost use Rattle.bus.specs.Block.{block_bytes, read_block, wrote_block};
 ghost use Rattle.temperature.specs.Temperature.{stated_reading};
 ghost use Rattle.bus.specs.Dump.{dump_answer, dumped_into};
 
-use bus::{Change, Readings};
+use bus::{ByteRead, Change, Readings};
 use map::{Block, registers};
 use state::{Chip, Refusal};
 use temperature::{HALF, Reading, Stated};
@@ -58,7 +58,7 @@ pub struct Tick {
 }
 
 // What an event answers.
-// Stays: a refusal is one of the answers, and no Err, for the chip after it is answered too.
+// Stays: a refusal is one of the answers, and no Err, for `refused_step`, `refused_keeps` and `NoneRefused` speak of it so.
 #[derive(Clone, Copy, PartialEq, Eq)]
 pub enum Answer {
     Nothing,
@@ -320,11 +320,9 @@ fn read(chip: &mut Chip, address: u8, register: u8) -> Option<u8>
     if !bus::answers(chip.pin, address) {
         return None;
     }
-    let read = bus::read_register(&readings_of(chip), chip.kept, register);
-    // Stays: an array is stored in a field from a variable alone, and not from a field.
-    let kept = read.kept;
+    let ByteRead { byte, kept } = bus::read_register(&readings_of(chip), chip.kept, register);
     chip.kept = kept;
-    Some(read.byte)
+    Some(byte)
 }
 
 // The block that it shows, or none where it is not acknowledged.

@@ -160,6 +160,7 @@ fn begin() -> Run {
     }
 }
 
+// Stays: a loop of its own in each program, for what it hands on from line to line is another in each.
 fn give_all(rt: &impl Print, input: &[u8]) -> io::Result<Run> {
     let mut run = begin();
     for piece in input.split_inclusive(|b| *b == b'\n') {

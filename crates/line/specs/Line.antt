@@ -118,7 +118,7 @@ answer_room (answer.Block (Some b)) = BLOCK_ROOM
 answer_room (answer.Block None) = ROOM
 answer_room (answer.BlockWritten ack) = ROOM
 
--- "It returns its number and length 0", "A taken line returns 0 and its answer's length" (`bus`: Dump has number and length of each)
+-- "It returns its number and length 0", "A taken line returns 0 and its answer's length" (`state`: Refusal has number and length of each)
 unfoldable pub replied : Option Refusal → ℕ → Result ℕ Refusal
 replied None n = Ok n
 replied (Some r) n = Err r

@@ -27,6 +27,7 @@ pub struct Taken {
 }
 
 // What a line asks for. The setup itself is not in here: it is large, and most lines have none.
+// Stays: no Option of an event, for a setup is asked for as an event is.
 #[derive(Clone, Copy)]
 pub enum Asked {
     Setup,
@@ -119,10 +120,10 @@ fn ask_other(begun: bool, line: &[u8]) -> Result<Asked, Refusal>
 fn room_for(line: &[u8]) -> usize
     ensures { result ≡ room_for line.now }
 {
-    if line.len() > 0 && line[0] == b'G' {
-        return BLOCK_ROOM;
+    match line {
+        [b'G', ..] => BLOCK_ROOM,
+        _ => ROOM,
     }
-    ROOM
 }
 
 // What a line asks for, after others have been taken or not, with this much room for its answer: with room for any, the
@@ -148,10 +149,7 @@ fn ask(begun: bool, room: usize, line: &[u8]) -> Result<Asked, Refusal>
 fn set_up(session: &mut Session, line: &[u8])
     ensures { silent_line (setup_line line.now) ≡ record { session = session.new; reply = Ok 0 } }
 {
-    let setup = match settings::settings_of(line) {
-        Ok(setup) => setup,
-        Err(_) => state::default_setup(),
-    };
+    let setup = settings::settings_of(line).unwrap_or_else(|_| state::default_setup());
     session.chip = state::power_on(setup).chip;
     session.begun = true;
 }
@@ -167,6 +165,7 @@ fn take_event(session: &mut Session, event: Event, bytes: &[u8], out: &mut [u8])
 }
 
 // The reply to a line on a session that is lent.
+// Stays: no `?` (tried: the check does not see that it hands the refusal on as it is).
 fn reply_to(session: &mut Session, line: &[u8], out: &mut [u8]) -> Result<usize, Refusal>
     ensures { (taken_line session.old line.now out.old ≡ record { session = session.new; reply = result }) × (out.new ≡ buffer_after session.old line.now out.old) }
 {

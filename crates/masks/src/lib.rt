@@ -72,6 +72,7 @@ fn asleep_volts(mask: u8, group: u8) -> u8
 }
 
 // The bits of 41h (group 0) or 42h (group 1) that are masked.
+// Stays: the group is a number, since it is the place of a register behind 41h.
 #[tactic(auto, using(crate::specs::Asleep::volts_by_mask))]
 pub fn volt_masks(file: &[u8; 256], group: u8) -> u8
     ensures { result ≡ volt_masks file.now group }

@@ -1,5 +1,5 @@
 -- The code reads a line from numbers held to 65535, and hands on what it would of the exact ones. Assumes nothing.
-use Rattle.std.specs.Prelude.{◌≡◌, refl, Bool, List, Option, Some, ℕ, min, ℤ, pos, neg_ℤ}
+use Rattle.std.specs.Prelude.{◌≡◌, refl, Bool, List, Option, None, Some, ℕ, min, ℤ, pos, neg_ℤ}
 use Rattle.std.proofs.Common.{arith}
 use Rattle.temperature.specs.declared.Stated.{Stated}
 use Rattle.event.specs.declared.Event.{Event}
@@ -7,7 +7,7 @@ use Rattle.text.specs.declared.Number.{Number}
 use Rattle.text.specs.declared.Number.TheVariants.{Dash, Plus, Minus}
 use Rattle.text.specs.Number.{is_spelt, saturated}
 use Rattle.text.specs.Saturated.{saturated_spelt}
-use Rattle.parse.specs.Parse.{index_of, spelled_stated, count_of, both_of, pin_by, alone_line, write_line, read_line, read_block_line, write_block_line}
+use Rattle.parse.specs.Parse.{index_of, spelled_stated, count_of, both_of, temperature_line, voltage_line, fan_line, hot_line, pin_by, alone_line, write_by, write_line, read_by, read_line, read_block_by, read_block_line, write_block_by, write_block_line}
 use Rattle.parse.specs.Pairs.{pair_line, counted_by}
 use Rattle.parse.specs.Clamped.{held, saturated_pair, clamped_index, clamped_signed, clamped_stated, clamped_count, clamped_event, clamped_parsed}
 
@@ -64,6 +64,23 @@ pub pin_held : (n : Option Number) → SameClamped (pin_by (saturated n)) (pin_b
 unfolding saturated
 pin_held n = grind (arith, saturated_some, count_held)
 
+temperature_held : (counted : ℤ → Stated) → ((z : ℤ) → clamped_stated (counted z) ≡ counted (clamped_signed z)) → (p : Option (Number × Number)) → SameClamped (temperature_line counted (saturated_pair p)) (temperature_line counted p)
+unfolding saturated_pair
+temperature_held counted c None = refl
+temperature_held counted c (Some (i, v)) = rw (index_held i, stated_held counted c v)
+
+voltage_held : (p : Option (Number × Number)) → SameClamped (voltage_line (saturated_pair p)) (voltage_line p)
+unfolding saturated_pair
+voltage_held p = grind (arith, index_held, count_held)
+
+fan_held : (p : Option (Number × Number)) → SameClamped (fan_line (saturated_pair p)) (fan_line p)
+unfolding saturated_pair
+fan_held p = grind (arith, index_held, count_held)
+
+hot_held : (p : Option (Number × Number)) → SameClamped (hot_line (saturated_pair p)) (hot_line p)
+unfolding saturated_pair
+hot_held p = grind (arith, index_held, count_held)
+
 -- what a pair says is handed on as of the exact one
 pub pair_held : (letter : ℕ) (p : Option (Number × Number)) → SameClamped (pair_line letter (saturated_pair p)) (pair_line letter p)
 unfolding saturated_pair pair_line
@@ -84,6 +101,18 @@ Kept p = clamped_parsed p ≡ p
 pub alone_clamped : (e : Event) (s : List ℕ) → clamped_event e ≡ e → Kept (alone_line e s)
 unfolding alone_line
 alone_clamped e s h = grind arith
+
+write_by_clamped : (t : Option (ℕ × ℕ × ℕ)) → Kept (write_by t)
+write_by_clamped t = grind arith
+
+read_by_clamped : (t : Option (ℕ × ℕ)) → Kept (read_by t)
+read_by_clamped t = grind arith
+
+read_block_by_clamped : (t : Option (ℕ × ℕ)) → Kept (read_block_by t)
+read_block_by_clamped t = grind arith
+
+write_block_by_clamped : (t : Option (ℕ × ℕ × ℕ)) (s : List ℕ) → Kept (write_block_by t s)
+write_block_by_clamped t s = grind arith
 
 pub write_clamped : (s : List ℕ) → Kept (write_line s)
 unfolding write_line

@@ -14,9 +14,7 @@ ghost use Rattle.parse.specs.Walked.{Behind};
 
 use event::{BLOCK_MOST, Event};
 use temperature::Stated;
-use text::Number;
-
-const TAB: u8 = 9;
+use text::{Number, TAB};
 
 // The first field of a P line's data.
 const DATA: usize = 4;
@@ -35,6 +33,7 @@ fn index_of(n: Number) -> u8
 }
 
 // A number as it is, or 32767, which no range holds.
+// Stays: numbers that no range holds, here and beside, for `clamped_parsed` promises them, and the ranges are the event's own business.
 fn above(v: u16) -> i16
     ensures { result ≡ pos (min v 32767) }
 {
@@ -42,6 +41,7 @@ fn above(v: u16) -> i16
 }
 
 // A temperature in the unit of its letter: of T half degrees, of U sixteenths.
+// Stays: by its letter, as `counted_by` of the definitions has it; a function handed in would be the same test at its callers.
 #[tactic(auto, unfolding(crate::specs::Pairs::counted_by))]
 fn counted_by(letter: u8, n: i16) -> Stated
     ensures { result ≡ counted_by letter n }
@@ -240,7 +240,7 @@ fn write_block_line(line: &[u8]) -> Option<Event>
 // ---- the event
 
 // The letter of a line; 0, which is none, where its first field is not one byte.
-// Stays: 0 is none in the definition too, and all who ask compare it with letters: an Option would be one case more at each of them.
+// Stays: a byte, 0 for none, for so `line_before`, `line_refused` and `line_same` (`spoken`: OldLines) speak of a line's letter.
 #[tactic(auto, using(crate::specs::Walked::letter_walked))]
 pub fn letter_of(line: &[u8]) -> u8
     ensures { result ≡ letter_of line.now }

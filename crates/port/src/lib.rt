@@ -1,4 +1,5 @@
 // The chip that stays with the caller: each function calls the one that takes the chip by value, and stores back what it gives.
+// Stays: by value within, for so document 01 has it ("A form for each place"); `event::take` takes a lent chip.
 #![tactic(auto)]
 
 ghost use Rattle.port.specs.Port.{PowersOn, TakesEvent, TakesLine, Dumps, ShowsBlock};

@@ -5,6 +5,7 @@
 
 ghost use Rattle.std.specs.Prelude.{◌<◌};
 
+use state::Refusal;
 use std::io;
 use std::io::Read;
 use temperature::{DEGREE, Reading};
@@ -17,22 +18,6 @@ const TABLE_FIELDS: usize = 14;
 
 // The fields of a case.
 const CASE_FIELDS: usize = 3;
-
-// The refusals, with the numbers of document 01.
-#[derive(Drop)]
-enum Refusal {
-    OutOfRange,
-    Spelling,
-}
-
-impl From<Refusal> for u8 {
-    fn from(refusal: Refusal) -> u8 {
-        match refusal {
-            Refusal::OutOfRange => 2,
-            Refusal::Spelling => 4,
-        }
-    }
-}
 
 #[derive(Drop)]
 struct Table {
@@ -68,8 +53,8 @@ fn numbers<const N: usize>(line: &[u8]) -> Result<[Number; N], Refusal> {
 
 fn byte(number: Number) -> Result<u8, Refusal> {
     match number {
-        Number::Plus(v) => u8::try_from(v).map_err(|_| Refusal::OutOfRange),
-        Number::Dash | Number::Minus(_) => Err(Refusal::OutOfRange),
+        Number::Plus(v) => u8::try_from(v).map_err(|_| Refusal::Event),
+        Number::Dash | Number::Minus(_) => Err(Refusal::Event),
     }
 }
 
@@ -80,12 +65,12 @@ fn signed(number: Number, most: u16) -> Result<i16, Refusal>
     match number {
         Number::Plus(v) if v <= most => Ok(v as i16),
         Number::Minus(v) if v <= most => Ok(-(v as i16)),
-        _ => Err(Refusal::OutOfRange),
+        _ => Err(Refusal::Event),
     }
 }
 
 fn degrees(number: Number) -> Result<i8, Refusal> {
-    i8::try_from(signed(number, 127)?).map_err(|_| Refusal::OutOfRange)
+    i8::try_from(signed(number, 127)?).map_err(|_| Refusal::Event)
 }
 
 fn reading(number: Number) -> Result<Reading, Refusal> {
@@ -163,6 +148,7 @@ fn take(rt: &impl Print, table: Table, line: &[u8], number: u64) -> io::Result<T
     Ok(table)
 }
 
+// Stays: a loop of its own in each program, for what it hands on from line to line is another in each.
 fn take_all(rt: &impl Print, input: &[u8]) -> io::Result<()> {
     let mut table = first_table();
     let mut number: u64 = 0;

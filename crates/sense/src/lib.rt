@@ -349,7 +349,7 @@ pub fn mark_missing(
 )
     ensures { file.new ≡ missed_file file.old zones.now volts.now fans.now }
 {
-    // Stays: three loops, for channels, fans and zones are three types, and their readings are of two.
+    // Stays: three loops by index, for `Channel`, `Fan` and `Zone` are made of it, and the readings are of two types.
     for i in 0..16 {
         Channel { at: i }.miss(file, volts[i as usize]);
     }

@@ -46,6 +46,7 @@ fn take(rt: &impl Print, run: Run, line: &[u8]) -> io::Result<Run> {
     give(rt, run, line)
 }
 
+// Stays: a loop of its own in each program, for what it hands on from line to line is another in each.
 fn take_all(rt: &impl Print, input: &[u8]) -> io::Result<()> {
     let mut run = begin();
     for piece in input.split_inclusive(|b| *b == b'\n') {

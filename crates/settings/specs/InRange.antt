@@ -98,7 +98,7 @@ answer_valid true true false up x v = default_valid
 answer_valid true false within up x v = default_valid
 answer_valid false spelt within up x v = default_valid
 
--- the setup of a line is one that is taken, beside a refusal too
+-- the setup of a line is one that is taken; in place of a refused one stands that without a setup
 pub settings_valid : (s : List ℕ) → Valid (setup_or_default (settings_of s))
 unfolding settings_of
 settings_valid s = answer_valid (is_setup s) (every NUMBERS (λ k. is_spelt (setting_at s k))) _ _ _ (setup_valid (setting_at s))

@@ -46,7 +46,7 @@ impl From<Refusal> for u8 {
 }
 
 // The 59 numbers of a setup, in document 01's order.
-// Stays: a list for each group of numbers, and no struct for each fan or table, for in this order document 01 gives them and S carries them.
+// Stays: a list for each group of numbers, not a struct for each fan, for `setup_by` and `default_setup` have the groups of document 01.
 #[derive(Clone, Copy)]
 pub struct Setup {
     pub level: u8,
@@ -91,7 +91,7 @@ pub struct Drive {
     pub starts: [u8; 2],
 }
 
-// Stays: `erring` beside `volts`, and what each fan has in lists, for so the definitions read them and the theorems on `Chip` speak of them.
+// Stays: `erring` beside `volts`, and what each fan has in lists, for so `in_error`, `volt_at`, `power_on` and `Cooler` read them.
 #[derive(Clone, Copy)]
 pub struct Chip {
     pub setup: Setup,
@@ -113,7 +113,6 @@ pub struct Chip {
 }
 
 // The chip, and the refusal of its setup or none.
-// Stays: no Result, for a chip is answered beside a refusal too: as it was, or the one without a setup (`powered`, `powered_on`).
 #[derive(Clone, Copy)]
 pub struct Powered {
     pub chip: Chip,
@@ -142,6 +141,7 @@ pub fn default_setup() -> Setup
 }
 
 // The register file at power-on.
+// Stays: document 01 has it built of zeros and then filled from the map's defaults.
 fn default_registers() -> [u8; 256]
     ensures { result ≡ defaults }
 {
@@ -190,7 +190,7 @@ fn override_in(duty: Option<u16>) -> bool
     duty.is_none_or(|d| d <= most::DUTY)
 }
 
-// Stays: two of one line, for bytes and for duties: what a bound of both would have to promise of their numbers is longer.
+// Stays: a line for each of five lists, of bytes, duties, bases, boosts and overrides: what a bound of all would have to promise is longer.
 #[tactic(auto, using(laws::specs::Passing::every_is), unfolding(crate::specs::Valid::numbers_in, laws::specs::AllPass::all_pass))]
 fn bytes_in(most: u8, numbers: &[u8]) -> bool
     ensures { result ≡ numbers_in most numbers.now }
@@ -316,7 +316,7 @@ pub fn power_on(setup: Setup) -> Powered
 
 // ---- readings and kept bytes; zones, channels and fans count from 0
 
-// Of the readings of zones, channels or fans, or their kept bytes, that of one; none where there is no such one.
+// Of the readings of zones, channels or fans, their kept bytes, or duties, that of one; none where there is no such one.
 pub fn at<T: Copy>(parts: &[T], k: u8, none: T) -> T
     ensures { result ≡ get_or parts.now k none }
 {
@@ -327,7 +327,7 @@ pub fn at<T: Copy>(parts: &[T], k: u8, none: T) -> T
 pub fn with<T: Copy, const N: usize>(parts: [T; N], k: u8, part: T) -> [T; N]
     ensures { result ≡ set parts k part }
 {
-    let i = k as usize;
+    let i = usize::from(k);
     let mut next = parts;
     if i < N {
         next[i] = part;

@@ -9,7 +9,7 @@ ghost use Rattle.text.specs.Number.{run_of, saturated_run, saturated, plus_of, m
 ghost use Rattle.text.specs.Hex.{nibble_of, hex_byte_of, hexes_spelt, hexes_of};
 ghost use Rattle.text.specs.Answers.{Wrote, HasRoom, Writes, digits_text, column_text, hex_digit, hex_text, digit_of, ack_text, byte_text, no_byte_text, bytes_text, block_text, tick_text, refusal_text, ROOM, BLOCK_ROOM, wrote_length, wrote_into};
 
-const TAB: u8 = 9;
+pub const TAB: u8 = 9;
 
 const LINE_FEED: u8 = 10;
 
@@ -19,6 +19,7 @@ pub const ROOM: usize = 64;
 pub const BLOCK_ROOM: usize = 128;
 
 // The longest block.
+// Stays: beside that of `event`, of which `text` knows nothing.
 const BLOCK_MOST: usize = 32;
 
 // A decimal field: "-" alone, or a number, of which all above 65535 count as 65535.
@@ -47,7 +48,7 @@ fn width_before(s: &[u8], end: u8) -> usize
 }
 
 // How many bytes stand before the first tab.
-// Stays: `width` and `line_width` are two names of one function, and callers are plainer by them.
+// Stays: `width` and `line_width` are public, one for each byte that parts a text (docs/PROMISES.md).
 pub fn width(s: &[u8]) -> usize
     ensures within { result ≤ length s.now }
     ensures holds { result ≡ length (first_field s.now) }
@@ -325,7 +326,7 @@ fn digit_of(on: bool) -> u8
 
 // The answer to W or P, at the start of a lent buffer: its length, or 0 where there is no room.
 // Stays: 0 for no room, since `wrote_length` promises that length.
-// Stays: each answer tests the room itself; a closure for what follows the test would need clauses of its own, longer than the test.
+// Stays: each answer tests the room itself (tried: where a function answers an `Option<Output>`, its caller does not know what it left).
 #[tactic(auto, unfolding(crate::specs::Answers::ack_text, crate::specs::Answers::wrote_length, crate::specs::Answers::wrote_into))]
 pub fn write_ack(out: &mut [u8], letter: u8, ack: bool) -> usize
     ensures { (result ≡ wrote_length ROOM (ack_text letter ack) out.old) × (out.new ≡ wrote_into ROOM (ack_text letter ack) out.old) }
@@ -384,6 +385,7 @@ pub fn write_block_shown(out: &mut [u8], bytes: &[u8]) -> usize
 }
 
 // The answer to K.
+// Stays: six numbers, for `text` knows no chip and no tick.
 #[tactic(auto, unfolding(crate::specs::Answers::wrote_length, crate::specs::Answers::wrote_into))]
 pub fn write_tick(
     out: &mut [u8],
@@ -410,6 +412,7 @@ pub fn write_tick(
 }
 
 // What a refused line prints: E, the line's number, the refusal.
+// Stays: a number, for `text` knows no chip, and prints the refusal of any reader.
 #[tactic(auto, unfolding(crate::specs::Answers::wrote_length, crate::specs::Answers::wrote_into))]
 pub fn write_refusal(out: &mut [u8], number: u64, refusal: u8) -> usize
     ensures { (result ≡ wrote_length ROOM (refusal_text number refusal) out.old) × (out.new ≡ wrote_into ROOM (refusal_text number refusal) out.old) }

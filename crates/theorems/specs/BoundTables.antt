@@ -44,7 +44,7 @@ table_bit binding i l t =
     let low : bit_and (binding % 16) (2 ^ i % 16) ≡ 2 ^ i % 16 = sym (and_mod binding (2 ^ i) 4) ∙ ap (λ (n : ℕ). n % 16) (set_eq binding (2 ^ i) t) in
     rw (rw small at low) (eqb_refl (2 ^ i))
 
-module _ (c : Chip) (fan table : ℕ) (l : table < 4) (bound : T (is_set (get_or c.setup.bindings fan 0) (2 ^ table))) (off : (get_or c.setup.overrides fan no_override) ≡ None) where
+module _ (c : Chip) (fan table : ℕ) (l : table < 4) (bound : T (is_set (get_or c.setup.bindings fan 0) (2 ^ table))) (off : get_or c.setup.overrides fan no_override ≡ None) where
   -- without an override a fan's duty is at least what a bound table asks
   asked_le_duty : (ask_after c table).duty ≤ duty_of c fan
   unfolding duty_of duty_after fan_duty tables_ask asks_after
@@ -62,7 +62,7 @@ marks_follow c table =
     cc ((missed_keeps c).zones, (missed_marks c).other TEMPERATURE_SOURCE_SELECT (λ s. omega arith), (missed_marks c).other FAN_CONTROL_BINDINGS (λ s. omega arith))
 
 -- from power-on, a fan whose bound table follows a missing reading has a duty of 256 after a tick
-pub missing_duty : (s : Setup) → Valid s → (gs : List Given) (fan table : ℕ) → table < 4 → T (is_set (get_or s.bindings fan 0) (2 ^ table)) → (get_or s.overrides fan no_override) ≡ None → followed (chip_after (power_on s) gs) table ≡ Missing → duty_of (missed (chip_after (power_on s) gs)) fan ≡ 256
+pub missing_duty : (s : Setup) → Valid s → (gs : List Given) (fan table : ℕ) → table < 4 → T (is_set (get_or s.bindings fan 0) (2 ^ table)) → get_or s.overrides fan no_override ≡ None → followed (chip_after (power_on s) gs) table ≡ Missing → duty_of (missed (chip_after (power_on s) gs)) fan ≡ 256
 unfolding power_on
 missing_duty s v gs fan table l bound off m =
     let c = missed (chip_after (power_on s) gs) in

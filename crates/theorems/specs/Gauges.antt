@@ -62,7 +62,7 @@ gives (WriteBlock address command) =
 -- ---- V and F
 
 -- a missing reading stays so if what is stored in its own place is missing
-stays : (l : List (Option ℕ)) (i j : ℕ) (n : Option ℕ) → (get_or l i no_gauge) ≡ None → (j ≡ i → n ≡ None) → (get_or (set l j n) i no_gauge) ≡ None
+stays : (l : List (Option ℕ)) (i j : ℕ) (n : Option ℕ) → get_or l i no_gauge ≡ None → (j ≡ i → n ≡ None) → get_or (set l j n) i no_gauge ≡ None
 stays l i j n m own = set_cases (λ (g : Option ℕ). g ≡ None) l j i n no_gauge m own
 
 -- the zone that a voltage feeds is none of the voltages

@@ -75,7 +75,7 @@ full_duty c (suc (suc fan)) l e = absurd (omega arith)
 -- any that can come before a tick, and the setup is any that is taken.
 pub missing_full : (s : Setup) → (powered_on s).refusal ≡ None → (gs : List Given) (fan table : ℕ) → fan < 2 → table < 4
     → T (is_set (get_or s.bindings fan 0) (2 ^ table))
-    → (get_or s.overrides fan no_override) ≡ None
+    → get_or s.overrides fan no_override ≡ None
     → followed (chip_after (power_on s) gs) table ≡ Missing
     → FullDuty (chip_after (power_on s) gs) fan
 missing_full s v gs fan table f t bound off m =
