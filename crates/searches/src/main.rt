@@ -164,6 +164,7 @@ fn take_all(rt: &impl Print, input: &[u8]) -> io::Result<()> {
     Ok(())
 }
 
+// Stays: as in `sessions` but for the limit and the name; a crate for these lines would be longer than they are.
 fn main(rt: HostRuntime) -> io::Result<()> {
     let mut input = Vec::new(rt.alloc());
     // One byte more tells that there is more.
