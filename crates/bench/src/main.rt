@@ -64,11 +64,14 @@ struct Bench {
 }
 
 impl Bench {
-    // Gives a line to the chip. What it prints waits.
+    // Gives a line to the chip. What it prints waits. A refused line leaves the session as it was, so it isn't copied back.
     fn give(&mut self, line: &[u8], out: &mut Output) {
         let taken = line::take_line(self.session, line, &mut out.bytes[out.waiting..]);
         let length = match taken.reply {
-            Ok(length) => length,
+            Ok(length) => {
+                self.session = taken.session;
+                length
+            }
             Err(refusal) => {
                 text::write_refusal(
                     &mut out.bytes[out.waiting..],
@@ -78,7 +81,6 @@ impl Bench {
             },
         };
         out.wait(length);
-        self.session = taken.session;
         self.number = self.number.saturating_add(1);
     }
 

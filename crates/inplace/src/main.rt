@@ -3,6 +3,8 @@
 // zones' readings.
 #![tactic(auto)]
 
+ghost use Rattle.std.specs.Prelude.{◌≤◌, IfOk, length};
+
 use event::{Answer, BLOCK_MOST};
 use line::Session;
 use state::{Chip, Refusal, Setup};
@@ -11,11 +13,13 @@ use std::io::Read;
 use temperature::Reading;
 use text::{BLOCK_ROOM, ROOM};
 
-const INPUT: u64 = 4096;
+const INPUT: usize = 4096;
 
 const REGISTERS: usize = 256;
 
 const ROW: usize = 16;
+
+const HEX_DIGITS: [u8; 16] = *b"0123456789ABCDEF";
 
 // The session that is lent, the one by value, the chip that is lent, and the number of the next line.
 #[derive(Drop)]
@@ -174,8 +178,10 @@ fn give_all(rt: &impl Print, input: &[u8]) -> io::Result<Run> {
 // Sixteen bytes are a row.
 fn write_dump(rt: &impl Print, bytes: &[u8; REGISTERS]) -> io::Result<()> {
     for (i, byte) in bytes.iter().enumerate() {
-        let behind = if i % ROW == ROW - 1 { '\n' } else { ' ' };
-        print!(rt; "{byte:02X}{behind}")?;
+        let high = HEX_DIGITS[usize::from(*byte / 16)];
+        let low = HEX_DIGITS[usize::from(*byte % 16)];
+        let behind = if i % ROW == ROW - 1 { b'\n' } else { b' ' };
+        rt.write_all(&[high, low, behind])?;
     }
     Ok(())
 }
@@ -192,10 +198,26 @@ fn write_zones(rt: &impl Print, zones: &[Reading; 6]) -> io::Result<()> {
     println!(rt; "")
 }
 
+// Stays: reading is as in `sessions` and `searches`; a crate for these lines would be longer than they are.
+// Reads until the input is full or at its end, and answers how many bytes it has.
+fn read_full(reader: &mut impl Read, input: &mut [u8]) -> io::Result<usize>
+    ensures { IfOk result (λ n. n ≤ length input.new) }
+{
+    let mut done = 0;
+    for _ in 0..input.len() {
+        let got = reader.read(&mut input[done..])?;
+        if got == 0 {
+            break;
+        }
+        done += got;
+    }
+    Ok(done)
+}
+
 fn main(rt: HostRuntime) -> io::Result<()> {
-    let mut input = Vec::new(rt.alloc());
-    rt.stdin().take(INPUT).read_to_end(&mut input)?;
-    let run = give_all(&rt, &input)?;
+    let mut input = [0u8; INPUT];
+    let n = read_full(&mut rt.stdin(), &mut input)?;
+    let run = give_all(&rt, &input[..n])?;
     let chip = run.held.chip;
     refuse_setups(&rt, chip)?;
     let mut all = [0u8; REGISTERS];

@@ -3,7 +3,7 @@
 // It prints the case, the new step and how many thresholds the search compared. A line that begins with # is a title, and printed.
 #![tactic(auto)]
 
-ghost use Rattle.std.specs.Prelude.{◌<◌};
+ghost use Rattle.std.specs.Prelude.{◌<◌, ◌≤◌, IfOk, length};
 
 use state::Refusal;
 use std::io;
@@ -12,6 +12,9 @@ use temperature::{DEGREE, Reading};
 use text::Number;
 
 const INPUT_MOST: usize = 32768;
+
+// One byte more tells that there is more.
+const INPUT: usize = INPUT_MOST + 1;
 
 // The fields of a table's line: base, how many sixteenths a count is, and the offsets.
 const TABLE_FIELDS: usize = 14;
@@ -164,15 +167,27 @@ fn take_all(rt: &impl Print, input: &[u8]) -> io::Result<()> {
     Ok(())
 }
 
-// Stays: as in `sessions` but for the limit and the name; a crate for these lines would be longer than they are.
+// Stays: reading is as in `sessions` and `inplace`; a crate for these lines would be longer than they are.
+// Reads until the input is full or at its end, and answers how many bytes it has.
+fn read_full(reader: &mut impl Read, input: &mut [u8]) -> io::Result<usize>
+    ensures { IfOk result (λ n. n ≤ length input.new) }
+{
+    let mut done = 0;
+    for _ in 0..input.len() {
+        let got = reader.read(&mut input[done..])?;
+        if got == 0 {
+            break;
+        }
+        done += got;
+    }
+    Ok(done)
+}
+
 fn main(rt: HostRuntime) -> io::Result<()> {
-    let mut input = Vec::new(rt.alloc());
-    // One byte more tells that there is more.
-    rt.stdin()
-        .take(INPUT_MOST as u64 + 1)
-        .read_to_end(&mut input)?;
-    if input.len() <= INPUT_MOST {
-        take_all(&rt, &input)
+    let mut input = [0u8; INPUT];
+    let n = read_full(&mut rt.stdin(), &mut input)?;
+    if n <= INPUT_MOST {
+        take_all(&rt, &input[..n])
     } else {
         rt.eprintln("searches: more than 32768 bytes on standard input")
     }

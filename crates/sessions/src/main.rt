@@ -1,12 +1,17 @@
 // Runs many sessions of lines, one after the other: a line that begins with # is the title of the next, which starts from power-on.
 #![tactic(auto)]
 
+ghost use Rattle.std.specs.Prelude.{◌≤◌, IfOk, length};
+
 use line::Session;
 use std::io;
 use std::io::Read;
 use text::BLOCK_ROOM;
 
 const INPUT_MOST: usize = 65536;
+
+// One byte more tells that there is more.
+const INPUT: usize = INPUT_MOST + 1;
 
 // A session, and the number of its next line.
 #[derive(Drop)]
@@ -55,15 +60,27 @@ fn take_all(rt: &impl Print, input: &[u8]) -> io::Result<()> {
     Ok(())
 }
 
-// Stays: as in `searches` but for the limit and the name; a crate for these lines would be longer than they are.
+// Stays: reading is as in `searches` and `inplace`; a crate for these lines would be longer than they are.
+// Reads until the input is full or at its end, and answers how many bytes it has.
+fn read_full(reader: &mut impl Read, input: &mut [u8]) -> io::Result<usize>
+    ensures { IfOk result (λ n. n ≤ length input.new) }
+{
+    let mut done = 0;
+    for _ in 0..input.len() {
+        let got = reader.read(&mut input[done..])?;
+        if got == 0 {
+            break;
+        }
+        done += got;
+    }
+    Ok(done)
+}
+
 fn main(rt: HostRuntime) -> io::Result<()> {
-    let mut input = Vec::new(rt.alloc());
-    // One byte more tells that there is more.
-    rt.stdin()
-        .take(INPUT_MOST as u64 + 1)
-        .read_to_end(&mut input)?;
-    if input.len() <= INPUT_MOST {
-        take_all(&rt, &input)
+    let mut input = [0u8; INPUT];
+    let n = read_full(&mut rt.stdin(), &mut input)?;
+    if n <= INPUT_MOST {
+        take_all(&rt, &input[..n])
     } else {
         rt.eprintln("sessions: more than 65536 bytes on standard input")
     }

@@ -11,7 +11,6 @@ use Rattle.text.specs.Number.{is_spelt, decimal_of}
 use Rattle.state.specs.declared.Setup.{Setup}
 use Rattle.state.specs.declared.Refusal.{Refusal}
 use Rattle.state.specs.declared.Refusal.TheVariants as refusal
-use Rattle.state.specs.Refusal.{number_of}
 use Rattle.state.specs.Most.{LEVEL_MOST, DEGREES_MOST, OFFSET_MOST, HYSTERESIS_MOST, DUTY_MOST, BYTE_MOST}
 use Rattle.state.specs.PowerOn.{default_setup}
 use Rattle.settings.specs.declared.Range.{Range}

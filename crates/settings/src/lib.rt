@@ -134,9 +134,14 @@ fn word_of(n: Number) -> u16
 fn all_rise(entries: &[Number; places::NUMBERS]) -> bool
     ensures { result ≡ every 12 (rises_by (slice_get entries.now)) }
 {
-    entries[places::DUTIES..places::BOOSTS]
-        .windows(2)
-        .all(|w| word_of(w[0]) <= word_of(w[1]))
+    for k in 0..12 {
+        let lower = word_of(entries[places::DUTIES + k]);
+        let upper = word_of(entries[places::DUTIES + k + 1]);
+        if upper < lower {
+            return false;
+        }
+    }
+    true
 }
 
 // ---- the setup

@@ -1,7 +1,8 @@
 // A zone's temperature: how it is held, how an event states it, and how its two registers show it.
 #![tactic(auto)]
 
-ghost use Rattle.std.specs.Prelude.{◌≡◌};
+ghost use Rattle.std.specs.Prelude.{◌≡◌, ◌%◌};
+ghost use Rattle.temperature.specs.Raised.{raised};
 ghost use Rattle.temperature.specs.Temperature.{whole_of, is_odd, whole_byte, half_set, sixteenths_of, reading_of, count_reading, with_half, hotter_of};
 
 // A signed count of sixteenths of a degree, or none.
@@ -33,19 +34,25 @@ pub const DEGREE: i16 = 1 << DEGREE_BITS;
 // The whole byte while a reading is missing.
 const MISSING: u8 = 0x80;
 
+// A number with no sign that ends in the same bits as z + 65536.
+#[tactic(auto, unfolding(crate::specs::Raised::raised))]
+fn bits_of(z: i16) -> u16
+    ensures { result ≡ raised z % 65536 }
+{
+    z.cast_unsigned()
+}
+
 // The reading rounded down to a degree, as two's complement.
-#[tactic(auto, unfolding(crate::specs::Temperature::whole_of, crate::specs::Temperature::byte_of))]
 fn whole(n: i16) -> u8
     ensures { result ≡ whole_of n }
 {
-    ((n >> DEGREE_BITS).cast_unsigned() % 256) as u8
+    (bits_of(n >> DEGREE_BITS) % 256) as u8
 }
 
-#[tactic(auto, unfolding(crate::specs::Temperature::is_odd))]
 fn is_odd(h: i16) -> bool
     ensures { result ≡ is_odd h }
 {
-    h.cast_unsigned() % 2 == 1
+    bits_of(h) % 2 == 1
 }
 
 // The whole-degree byte that shows a reading.

@@ -68,7 +68,13 @@ pub fn line_width(s: &[u8]) -> usize
 pub fn count_fields(s: &[u8]) -> usize
     ensures { result ≡ length (fields_of s.now) }
 {
-    s.iter().filter(|b| **b == TAB).count() + 1
+    let mut n = 1;
+    for b in s {
+        if *b == TAB {
+            n += 1;
+        }
+    }
+    n
 }
 
 // Where field k begins, or the line's end.

@@ -1,21 +1,24 @@
-use Rattle.std.proofs.Common.{◌≡◌, refl, ℕ, List, ◌∷◌, ◌+◌, length, count_by, cond, nat_eq, eq-eqb, ne_eqb, arith, rules}
-use Rattle.std.proofs.Math.Logic.{by_cases}
-use Rattle.std.proofs.Math.Decide.{ℕ_discrete}
-use Rattle.std.proofs.lemmas.List.Recursion.{is_count_by}
-use Rattle.text.specs.Fields.{other_fields, fields_of}
+use Rattle.std.proofs.Common.{◌≡◌, length, arith, ap, rules}
+use Rattle.text.specs.Fields.{fields_of}
+use Rattle.text.specs.Walk.{others_left_tab, others_left_byte, others_left_none}
 use Rattle.text.proofs.count_fields.Goals as goal
+use Rattle.text.proofs.count_fields.Goals.{then-b-eq-TAB, else-b-eq-TAB}
 
--- one more for each tab
-more : (b : ℕ) (s : List ℕ) → length (other_fields (b ∷ s)) ≡ cond (nat_eq b 9) (1 + length (other_fields s)) (length (other_fields s))
-unfolding other_fields fields_of
-more b s = by_cases (ℕ_discrete b 9) (λ e. rw (other_fields, eq-eqb b 9 e) (omega arith)) (λ e. rw (other_fields, ne_eqb b 9 e))
+pub loop-b-init : goal.loop-b-init
+unfolding fields_of
+loop-b-init c = search rules
 
-tabs : (s : List ℕ) → length (other_fields s) ≡ count_by (λ b. nat_eq b 9) s
-unfolding other_fields
-tabs = is_count_by (λ s. length (other_fields s)) (λ b. nat_eq b 9) refl more
+pub loop-b-preserved : goal.loop-b-preserved
+unfolding fields_of
+loop-b-preserved c =
+    let s = c.args.s.now in
+    let i = c.loop-b.b-index in
+    let more = c.loop-b-test.true in
+    elim c.if-b-eq-TAB.branch [
+      | then-b-eq-TAB w ↦ omega (arith, w.n-is, ap length (others_left_tab s i more w.if-b-eq-TAB.true))
+      | else-b-eq-TAB w ↦ omega (arith, w.n-is, ap length (others_left_byte s i more w.if-b-eq-TAB.false))
+    ]
 
 pub returns : goal.returns
-unfolding fields_of
 returns c =
-    let e : c.count.result ≡ count_by (λ b. nat_eq b 9) c.args.s.now = search rules in
-    omega (arith, tabs c.args.s.now)
+    omega (arith, ap length (others_left_none c.args.s.now c.loop-b.b-index c.loop-b-test.false))
